@@ -1,0 +1,14 @@
+//! Values and rows of queue tables, as every other crate speaks of them.
+#![tactic(auto)]
+
+mod bytes;
+mod row;
+mod words;
+
+pub use bytes::Bytes;
+pub use row::{Row, Value};
+pub use words::Words;
+
+/// Memory was wanted and could not be had.
+#[derive(Clone, Copy, Debug, PartialEq, Eq)]
+pub struct NoMemory;

@@ -1,0 +1,43 @@
+ghost use Rattle.std.specs.Prelude.{◌≡◌, IfOk};
+
+use crate::NoMemory;
+use std::alloc::Global;
+use std::marker::Model;
+
+/// A text, always UTF-8. A contract sees the list of its bytes.
+#[derive(Drop)]
+pub struct Words {
+    text: String,
+}
+
+impl Model for Words {
+    ghost use Rattle.std.specs.Prelude.{List, ℕ, string_bytes};
+
+    ghost Value = { List ℕ };
+
+    ghost view = { λ words. string_bytes words.text };
+}
+
+impl Words {
+    /// Copies the text.
+    pub fn new(alloc: Global, text: &str) -> Result<Words, NoMemory>
+        ensures { IfOk result (λ words. words ≡ text.now) }
+    {
+        match String::from_str(alloc, text) {
+            Ok(text) => Ok(Words { text }),
+            Err(_) => Err(NoMemory),
+        }
+    }
+
+    pub fn as_str(&self) -> &str
+        ensures { result.now ≡ self.now }
+    {
+        self.text.as_str()
+    }
+
+    pub fn copy(&self, alloc: Global) -> Result<Words, NoMemory>
+        ensures { IfOk result (λ words. words ≡ self.now) }
+    {
+        Words::new(alloc, self.as_str())
+    }
+}
