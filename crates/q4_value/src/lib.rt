@@ -2,10 +2,12 @@
 #![tactic(auto)]
 
 mod bytes;
+mod column;
 mod row;
 mod words;
 
 pub use bytes::Bytes;
+pub use column::{Column, Kind};
 pub use row::{Row, Value};
 pub use words::Words;
 

@@ -1,0 +1,29 @@
+ghost use Rattle.std.specs.Prelude.{◌≡◌, IfOk};
+
+use crate::{NoMemory, Words};
+use std::alloc::Global;
+
+/// What values a column takes: numbers of 64 bits, or texts.
+#[derive(Clone, Copy, Debug, PartialEq, Eq)]
+pub enum Kind {
+    Int,
+    Words,
+}
+
+/// A column of a table.
+#[derive(Drop)]
+pub struct Column {
+    pub name: Words,
+    pub kind: Kind,
+}
+
+impl Column {
+    pub fn copy(&self, alloc: Global) -> Result<Column, NoMemory>
+        ensures { IfOk result (λ column. column ≡ self.now) }
+    {
+        Ok(Column {
+            name: self.name.copy(alloc)?,
+            kind: self.kind,
+        })
+    }
+}
