@@ -1,0 +1,4 @@
+pub mod Flow
+pub mod Memory
+pub mod Reading
+pub mod Lines
