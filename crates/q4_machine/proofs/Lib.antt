@@ -1,0 +1,9 @@
+pub mod Lookup
+pub mod Rising
+pub mod Validity
+pub mod Steps
+pub mod Picks
+pub mod Looking
+pub mod Histories
+pub mod Reached
+pub mod Recording

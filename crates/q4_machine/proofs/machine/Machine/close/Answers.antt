@@ -1,0 +1,36 @@
+use Rattle.std.proofs.Common.{◌≡◌, ◌≢◌, ◌<◌, ◌∙◌, Option, Some, None, All, ℕ, length, refl, sym, ap, subst, arith}
+use Rattle.q4_machine.specs.declared.session.SessionMode.TheVariants.{NonOwner, Empty, Owner}
+use Rattle.q4_machine.specs.Machine.{MachineState, mode_of, owner_at, table_at}
+use Rattle.q4_machine.specs.Pick.{Picked}
+use Rattle.q4_machine.specs.Found.{picked_of}
+use Rattle.q4_machine.specs.Valid.{IsValid}
+use Rattle.q4_machine.proofs.Steps.{valid_quiet, valid_removed, valid_left, valid_given_back, owned_inside, not_owner, not_empty}
+use Rattle.q4_machine.proofs.Looking.{Finds, finds, valid_found, indexed, found_pick}
+use Rattle.q4_machine.proofs.machine.Machine.close.Goals as goal
+
+pub invariant_of-self : goal.invariant_of-self
+invariant_of-self c =
+    let m : MachineState = record { tables = c.self.inside.tables.items; sessions = c.self.inside.sessions.items; next_session = c.self.inside.next_session } in
+    let was = subst (λ (x : MachineState). mode_of x c.args.session ≡ Some NonOwner) (sym c.self.view_is) c.in-NonOwner.ensures in
+    rw c.remove_session.ensures (valid_left m c.args.session NonOwner c.self.invariant was not_owner)
+
+pub invariant_of-self-in-Empty : goal.invariant_of-self-in-Empty
+invariant_of-self-in-Empty c =
+    let m : MachineState = record { tables = c.self.inside.tables.items; sessions = c.self.inside.sessions.items; next_session = c.self.inside.next_session } in
+    let was = subst (λ (x : MachineState). mode_of x c.args.session ≡ Some Empty) (sym c.self.view_is) c.in-Empty.ensures in
+    rw c.remove_session-in-Empty.ensures (valid_left m c.args.session Empty c.self.invariant was not_empty)
+
+pub index_mut-table-requires : goal.index_mut-table-requires
+index_mut-table-requires c =
+    let m : MachineState = record { tables = c.self.inside.tables.items; sessions = c.self.inside.sessions.items; next_session = c.self.inside.next_session } in
+    let was = subst (λ (x : MachineState). mode_of x c.args.session ≡ Some (Owner c.in-Owner.place c.in-Owner.number)) (sym c.self.view_is) c.in-Owner.ensures in
+    let inside = owned_inside m c.in-Owner.place c.in-Owner.number c.args.session (c.self.invariant.owns c.args.session c.in-Owner.place c.in-Owner.number was) in
+    omega (arith, inside.0)
+
+pub invariant_of-self-in-Owner : goal.invariant_of-self-in-Owner
+invariant_of-self-in-Owner c =
+    let m : MachineState = record { tables = c.self.inside.tables.items; sessions = c.self.inside.sessions.items; next_session = c.self.inside.next_session } in
+    let was = subst (λ (x : MachineState). mode_of x c.args.session ≡ Some (Owner c.in-Owner.place c.in-Owner.number)) (sym c.self.view_is) c.in-Owner.ensures in
+    let inside = owned_inside m c.in-Owner.place c.in-Owner.number c.args.session (c.self.invariant.owns c.args.session c.in-Owner.place c.in-Owner.number was) in
+    let table = indexed c.self.inside.tables.items c.in-Owner.place c.index_mut-table.result.now inside.0 c.index_mut-table.ensures.value in
+    rw (c.release.ensures, c.remove_session-in-Owner.ensures, table) (valid_given_back m c.args.session c.in-Owner.place c.in-Owner.number c.self.invariant was)

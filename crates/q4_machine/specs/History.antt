@@ -1,0 +1,112 @@
+-- Histories: which are legal, and what in them is settled.
+use Rattle.std.specs.Prelude.{◌≡◌, ◌==◌, ◌&&◌, ◌+◌, ◌^◌, ◌<◌, ◌≤◌, ℕ, Bool, true, false, List, [], ◌∷◌, ◌++◌, Option, None, Some, All, Any, fold, length, if◌then◌else◌}
+use Rattle.q4_value.specs.declared.row.Value.{Value}
+use Rattle.q4_machine.specs.declared.session.SessionMode.{SessionMode}
+use Rattle.q4_machine.specs.declared.session.SessionMode.TheVariants.{NonOwner, Empty, Owner}
+use Rattle.q4_machine.specs.declared.entry.Entry.{Entry}
+use Rattle.q4_machine.specs.declared.entry.Call.{Call}
+use Rattle.q4_machine.specs.declared.entry.Call.TheVariants.{Opened, Open, Insert, Look, End, Close, Sync}
+use Rattle.q4_machine.specs.declared.entry.Reply.{Reply}
+use Rattle.q4_machine.specs.declared.entry.Reply.TheVariants.{Done, Session, Added, Found, Nothing, Refused}
+use Rattle.q4_machine.specs.TableState.{TableState}
+use Rattle.q4_machine.specs.Machine.{MachineState, mode_of, IsSessionOpen}
+use Rattle.q4_machine.specs.Step.{step, MayStep}
+use Rattle.q4_machine.specs.Valid.{IsValidTable}
+
+-- the machine before any entry
+abbrev pub nothing : MachineState
+nothing = record { tables = []; sessions = []; next_session = 0 }
+
+abbrev pub advance : MachineState → Entry → MachineState
+advance m e = (step m e.session e.call).0
+
+-- the machine that a history reaches
+abbrev pub state_after : List Entry → MachineState
+state_after history = fold advance nothing history
+
+abbrev pub is_open : Call → Bool
+is_open (Opened tables) = false
+is_open Open = true
+is_open (Insert place row) = false
+is_open (Look list) = false
+is_open End = false
+is_open Close = false
+is_open Sync = false
+
+-- the caller of the entry that opened a session
+abbrev pub opener : List Entry → ℕ → Option ℕ
+opener [] session = None
+opener (e ∷ es) session = if is_open e.call && e.session == session then Some e.caller else opener es session
+
+-- The session is open, and this caller opened it.
+pub record IsOpenFor (before : List Entry) (caller session : ℕ) : Type 0 where
+  pub is_open : IsSessionOpen (state_after before) session
+  pub opened_by : opener before session ≡ Some caller
+
+-- An entry that may come next: the call's needs are met, the session is the caller's, and the reply is the step's.
+pub record IsNext (before : List Entry) (e : Entry) : Type 0 where
+  pub may : MayStep (state_after before) e.session e.call
+  pub caller : is_open e.call ≡ false → opener before e.session ≡ Some e.caller
+  pub reply : e.reply ≡ (step (state_after before) e.session e.call).1
+
+-- The first entry: valid tables in which nobody owns a row.
+pub record IsOpening (e : Entry) : Type 0 where
+  pub caller : e.caller ≡ 0
+  pub session : e.session ≡ 0
+  pub tables : List TableState
+  pub call : e.call ≡ Opened tables
+  pub valid : All IsValidTable tables
+  pub unowned : All (λ table. All (λ r. r.owner ≡ None) table.rows) tables
+  pub reply : e.reply ≡ Done
+
+abbrev pub is_sync : Call → Bool
+is_sync (Opened tables) = false
+is_sync Open = false
+is_sync (Insert place row) = false
+is_sync (Look list) = false
+is_sync End = false
+is_sync Close = false
+is_sync Sync = true
+
+abbrev pub is_added : Reply → Bool
+is_added Done = false
+is_added (Session n) = false
+is_added (Added n) = true
+is_added (Found n) = false
+is_added Nothing = false
+is_added (Refused refusal) = false
+
+abbrev pub is_owner : Option SessionMode → Bool
+is_owner None = false
+is_owner (Some NonOwner) = false
+is_owner (Some Empty) = false
+is_owner (Some (Owner place number)) = true
+
+-- A change is an insert that added a row, or an end that removed one.
+abbrev pub is_change : MachineState → Call → ℕ → Reply → Bool
+is_change m (Opened tables) session reply = false
+is_change m Open session reply = false
+is_change m (Insert place row) session reply = is_added reply
+is_change m (Look list) session reply = false
+is_change m End session reply = is_owner (mode_of m session)
+is_change m Close session reply = false
+is_change m Sync session reply = false
+
+-- Each change at or before a place has a sync after it.
+abbrev pub IsSettled : List Entry → ℕ → Type 0
+IsSettled history place = (before : List Entry) (e : Entry) (later : List Entry) → history ≡ before ++ e ∷ later → length before ≤ place
+    → is_change (state_after before) e.call e.session e.reply ≡ true → Any (λ x. x.call ≡ Sync) later
+
+-- what a history may come to: entries, open sessions, and one sync where a change has none after it
+abbrev pub history_limit : ℕ
+history_limit = 2 ^ 62
+
+-- Wherever a legal history is cut, the entry behind the cut may come next there.
+pub record IsLegal (history : List Entry) : Type 0 where
+  pub opening : Entry
+  pub rest : List Entry
+  pub whole : history ≡ opening ∷ rest
+  pub opens : IsOpening opening
+  pub each : (before : List Entry) (e : Entry) (later : List Entry) → rest ≡ before ++ e ∷ later → IsNext (opening ∷ before) e
+  pub few : length history + length (state_after history).sessions < history_limit
+  pub few_owing : (IsSettled history (length history) → ⊥) → length history + length (state_after history).sessions + 1 < history_limit

@@ -1,0 +1,12 @@
+pub mod Fits
+pub mod TableState
+pub mod Machine
+pub mod Pick
+pub mod Step
+pub mod Valid
+pub mod History
+pub mod Looked
+pub mod Found
+pub mod Parts
+pub mod Recorded
+pub mod OneDesk

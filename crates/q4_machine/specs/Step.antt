@@ -1,0 +1,98 @@
+-- What each call does to the machine, and what it is answered.
+use Rattle.std.specs.Prelude.{◌≡◌, ◌≢◌, ◌<◌, ◌+◌, ℕ, List, [], ◌∷◌, ◌++◌, Option, None, Some, Result, Ok, Err, All, length, slice_set}
+use Rattle.q4_value.specs.declared.row.Value.{Value}
+use Rattle.q4_machine.specs.declared.table.StoredRow.{StoredRow}
+use Rattle.q4_machine.specs.declared.session.SessionMode.{SessionMode}
+use Rattle.q4_machine.specs.declared.session.SessionMode.TheVariants.{NonOwner, Empty, Owner}
+use Rattle.q4_machine.specs.declared.session.OpenSession.{OpenSession}
+use Rattle.q4_machine.specs.declared.table.Added as added
+use Rattle.q4_machine.specs.declared.table.Added.TheVariants.{New}
+use Rattle.q4_machine.specs.declared.entry.Call.{Call}
+use Rattle.q4_machine.specs.declared.entry.Call.TheVariants.{Opened, Open, Insert, Look, End, Close, Sync}
+use Rattle.q4_machine.specs.declared.entry.Reply.{Reply}
+use Rattle.q4_machine.specs.declared.entry.Reply.TheVariants.{Done, Session, Added, Found, Nothing, Refused}
+use Rattle.q4_machine.specs.declared.entry.Refusal.{Refusal}
+use Rattle.q4_machine.specs.declared.entry.Refusal.TheVariants.{NotOwner}
+use Rattle.q4_machine.specs.TableState.{TableState}
+use Rattle.q4_machine.specs.Machine.{MachineState, table_at, with_mode, without_session, with_owner, without_row, mode_of, IsSessionOpen}
+use Rattle.q4_machine.specs.Pick.{Picked, pick}
+use Rattle.q4_machine.specs.Fits.{RowFits}
+
+-- the machine with a table changed
+abbrev pub with_table : MachineState → ℕ → TableState → MachineState
+with_table m place table = record m { tables = slice_set m.tables place table }
+
+-- the machine with the rows of a table changed
+abbrev pub with_rows : MachineState → ℕ → (List StoredRow → List StoredRow) → MachineState
+with_rows m place change =
+    let table = table_at m.tables place in
+    with_table m place (record table { rows = change table.rows })
+
+-- the machine with a session in another mode
+abbrev pub with_session : MachineState → ℕ → SessionMode → MachineState
+with_session m session mode = record m { sessions = with_mode session mode m.sessions }
+
+-- the machine with a session gone
+abbrev pub with_none : MachineState → ℕ → MachineState
+with_none m session = record m { sessions = without_session session m.sessions }
+
+-- a new row has the table's next number and no owner
+abbrev pub add_row : TableState → List Value → TableState
+add_row table row = record { next = table.next + 1; rows = table.rows ++ record { number = table.next; row = row; owner = None } ∷ [] }
+
+-- a look takes what it picks, and without that leaves the session in owner mode without a row
+abbrev pub looked : MachineState → ℕ → Option Picked → MachineState × Reply
+looked m session (Some p) = (with_session (with_rows m p.table (with_owner p.number (Some session))) session (Owner p.table p.number), Found p.place)
+looked m session None = (with_session m session Empty, Nothing)
+
+-- an end removes the owned row and leaves owner mode
+abbrev pub ended : MachineState → ℕ → Option SessionMode → MachineState × Reply
+ended m session (Some NonOwner) = (m, Refused NotOwner)
+ended m session (Some Empty) = (with_session m session NonOwner, Done)
+ended m session (Some (Owner place number)) = (with_session (with_rows m place (without_row number)) session NonOwner, Done)
+ended m session None = (m, Done)
+
+-- a closing gives the owned row back to its place
+abbrev pub closed : MachineState → ℕ → Option SessionMode → MachineState × Reply
+closed m session (Some NonOwner) = (with_none m session, Done)
+closed m session (Some Empty) = (with_none m session, Done)
+closed m session (Some (Owner place number)) = (with_none (with_rows m place (with_owner number None)) session, Done)
+closed m session None = (m, Done)
+
+abbrev pub step : MachineState → ℕ → Call → MachineState × Reply
+step m session (Opened tables) = (record { tables = tables; sessions = []; next_session = 1 }, Done)
+step m session Open = (record m { sessions = m.sessions ++ record { session = m.next_session; mode = NonOwner } ∷ []; next_session = m.next_session + 1 }, Session m.next_session)
+step m session (Insert place row) = (with_table m place (add_row (table_at m.tables place) row), Added (table_at m.tables place).next)
+step m session (Look list) = looked m session (pick m list)
+step m session End = ended m session (mode_of m session)
+step m session Close = closed m session (mode_of m session)
+step m session Sync = (m, Done)
+
+-- What a call needs of the machine.
+abbrev pub MayStep : MachineState → ℕ → Call → Type 0
+MayStep m session (Opened tables) = ⊥
+MayStep m session Open = session ≡ m.next_session
+MayStep m session (Insert place row) = IsSessionOpen m session × (place < length m.tables) × RowFits row
+MayStep m session (Look list) = (mode_of m session ≡ Some NonOwner) × All (λ place. place < length m.tables) list
+MayStep m session End = IsSessionOpen m session
+MayStep m session Close = IsSessionOpen m session
+MayStep m session Sync = IsSessionOpen m session
+
+-- the replies to a look and an end, from what the machine's calls return
+abbrev pub look_reply : Option ℕ → Reply
+look_reply (Some place) = Found place
+look_reply None = Nothing
+
+abbrev pub end_reply : Result (Option (ℕ × ℕ)) Refusal → Reply
+end_reply (Ok row) = Done
+end_reply (Err refusal) = Refused refusal
+
+-- the row that an end removes: none where the session owns none
+abbrev pub owned_row : Option SessionMode → Option (ℕ × ℕ)
+owned_row (Some (Owner place number)) = Some (place, number)
+owned_row (Some NonOwner) = None
+owned_row (Some Empty) = None
+owned_row None = None
+
+abbrev pub added_reply : added.Added → Reply
+added_reply (New number) = Added number

@@ -1,0 +1,8 @@
+-- What contracts see of a table, of a machine and of a desk in memory.
+use Rattle.std.specs.Prelude.{ℕ, List, Option}
+use Rattle.q4_machine.specs.declared.table.StoredRow.{StoredRow}
+
+-- the number that the next row gets, and the rows
+pub record TableState : Type 0 where
+  pub next : ℕ
+  pub rows : List StoredRow

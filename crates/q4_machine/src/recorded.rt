@@ -1,0 +1,235 @@
+ghost use Rattle.std.specs.Prelude.{◌≡◌, ◌≤◌, ◌<◌, [], ◌∷◌, Some, All, IfOk, OnOk, OnErr, is_some};
+ghost use Rattle.q4_machine.specs.declared.entry.Call.TheVariants as call;
+ghost use Rattle.q4_machine.specs.declared.entry.Reply.TheVariants as reply;
+ghost use Rattle.q4_machine.specs.Fits.{RowFits};
+ghost use Rattle.q4_machine.specs.Machine.{mode_of};
+ghost use Rattle.q4_machine.specs.Step.{look_reply, end_reply, added_reply};
+ghost use Rattle.q4_machine.specs.History.{state_after, is_owner, IsOpenFor};
+ghost use Rattle.q4_machine.specs.Recorded.{pushed, opening, HasRoom, IsSound};
+
+use crate::{
+    Added, Call, DeskFault, Entry, Looks, Machine, Refusal, Reply, SessionMode, Table, Tables,
+};
+use q4_value::{NoMemory, Row};
+use std::alloc::Global;
+use std::marker::Model;
+
+/// Histories of more entries want memory.
+const ENTRY_LIMIT: usize = 1 << 61;
+
+/// A machine that records each call as an entry of caller 0.
+#[derive(Drop)]
+pub struct RecordedMachine {
+    machine: Machine,
+    history: Vec<Entry>,
+}
+
+impl Model for RecordedMachine {
+    ghost use Rattle.std.specs.Prelude.{vec_capacity};
+    ghost use Rattle.q4_machine.specs.Recorded.{Recorded};
+
+    ghost Value = { Recorded };
+
+    ghost use Rattle.q4_machine.specs.Recorded.{IsRecorded};
+
+    ghost view = { λ r. record { seen = r.history.items; room = vec_capacity r.history } };
+
+    ghost invariant = { λ r. IsRecorded r.machine r.history.items };
+}
+
+impl RecordedMachine {
+    /// A machine over the empty built-in table.
+    pub fn new(alloc: Global) -> Result<RecordedMachine, NoMemory>
+        ensures seen { IfOk result (λ recorded. recorded.seen ≡ opening ∷ []) }
+        ensures sound { IfOk result (λ recorded. IsSound recorded.seen) }
+    {
+        let machine = match Machine::new(alloc, built_in_tables(alloc)?) {
+            Ok(machine) => machine,
+            Err((_, fault)) => return Err(fault),
+        };
+        let opened = Entry {
+            caller: 0,
+            session: 0,
+            call: Call::Opened(built_in_tables(alloc)?),
+            reply: Reply::Done,
+        };
+        let mut history = Vec::new(alloc);
+        match history.push(opened) {
+            Ok(()) => Ok(RecordedMachine { machine, history }),
+            Err(_) => Err(NoMemory),
+        }
+    }
+
+    pub fn history(&self) -> &[Entry]
+        ensures { result.now ≡ self.now.seen }
+    {
+        self.history.as_slice()
+    }
+
+    /// Makes room for this many entries.
+    pub fn reserve(&mut self, count: usize) -> Result<(), DeskFault>
+        requires { count < 16 }
+        ensures seen { self.new.seen ≡ self.old.seen }
+        ensures kept { self.old.room ≤ self.new.room }
+        ensures room { OnOk result (HasRoom self.new count) }
+    {
+        if self.history.len() >= ENTRY_LIMIT - count {
+            return Err(DeskFault::Memory);
+        }
+        match self.history.reserve(count) {
+            Ok(()) => Ok(()),
+            Err(_) => Err(DeskFault::Memory),
+        }
+    }
+
+    /// The mode of an open session.
+    pub fn mode(&self, session: u64) -> SessionMode
+        requires { IsOpenFor self.now.seen 0 session }
+        ensures { mode_of (state_after self.now.seen) session ≡ Some result }
+    {
+        self.machine.mode(session)
+    }
+
+    pub fn open(&mut self) -> Result<u64, DeskFault>
+        requires { HasRoom self.old 1 }
+        ensures opened { IfOk result (λ s. (self.new ≡ pushed self.old s call.Open (reply.Session s)) × IsOpenFor self.new.seen 0 s) }
+        ensures sound { IsSound self.new.seen }
+        ensures kept { OnErr result (self.new ≡ self.old) }
+    {
+        match self.machine.open() {
+            Ok(session) => {
+                self.history
+                    .push_reserved(entry(session, Call::Open, Reply::Session(session)));
+                Ok(session)
+            }
+            Err(NoMemory) => Err(DeskFault::Memory),
+        }
+    }
+
+    pub fn insert(
+        &mut self,
+        alloc: Global,
+        session: u64,
+        table: u32,
+        row: Row,
+    ) -> Result<Added, DeskFault>
+        requires room { HasRoom self.old 1 }
+        requires is_open { IsOpenFor self.old.seen 0 session }
+        requires place { table < 1 }
+        requires fits { RowFits row }
+        ensures added { IfOk result (λ added. (self.new ≡ pushed self.old session (call.Insert table row) (added_reply added)) × IsOpenFor self.new.seen 0 session) }
+        ensures sound { IsSound self.new.seen }
+        ensures kept { OnErr result (self.new ≡ self.old) }
+    {
+        let Ok(copy) = row.copy(alloc) else {
+            return Err(DeskFault::Memory);
+        };
+        match self.machine.insert(session, table, row) {
+            Ok(Added::New(number)) => {
+                self.history.push_reserved(entry(
+                    session,
+                    Call::Insert(table, copy),
+                    Reply::Added(number),
+                ));
+                Ok(Added::New(number))
+            }
+            Err(NoMemory) => Err(DeskFault::Memory),
+        }
+    }
+
+    /// A look of a session in non-owner mode.
+    pub fn look(&mut self, session: u64, list: Looks) -> Option<u32>
+        requires room { HasRoom self.old 1 }
+        requires is_open { IsOpenFor self.old.seen 0 session }
+        requires mode { mode_of (state_after self.old.seen) session ≡ Some SessionMode.NonOwner }
+        requires places { All (λ place. place < 1) list }
+        ensures looked { self.new ≡ pushed self.old session (call.Look list) (look_reply result) }
+        ensures is_open { IsOpenFor self.new.seen 0 session }
+        ensures sound { IsSound self.new.seen }
+    {
+        let place = self.machine.look(session, &list);
+        self.history
+            .push_reserved(entry(session, Call::Look(list), look_outcome(place)));
+        place
+    }
+
+    /// It tells the row that was removed. The session is in non-owner mode then.
+    pub fn end(&mut self, session: u64) -> Result<Option<(u32, u64)>, Refusal>
+        requires room { HasRoom self.old 1 }
+        requires is_open { IsOpenFor self.old.seen 0 session }
+        ensures ended { self.new ≡ pushed self.old session call.End (end_reply result) }
+        ensures removed { IfOk result (λ row. is_some row ≡ is_owner (mode_of (state_after self.old.seen) session)) }
+        ensures refused { OnErr result (mode_of (state_after self.old.seen) session ≡ Some SessionMode.NonOwner) }
+        ensures is_open { IsOpenFor self.new.seen 0 session }
+        ensures mode { mode_of (state_after self.new.seen) session ≡ Some SessionMode.NonOwner }
+        ensures sound { IsSound self.new.seen }
+    {
+        let ended = self.machine.end(session);
+        self.history
+            .push_reserved(entry(session, Call::End, end_outcome(&ended)));
+        ended
+    }
+
+    pub fn close(&mut self, session: u64)
+        requires room { HasRoom self.old 1 }
+        requires is_open { IsOpenFor self.old.seen 0 session }
+        ensures closed { self.new ≡ pushed self.old session call.Close reply.Done }
+        ensures sound { IsSound self.new.seen }
+    {
+        self.machine.close(session);
+        self.history
+            .push_reserved(entry(session, Call::Close, Reply::Done));
+    }
+
+    /// In memory every change is safe at once.
+    pub fn sync(&mut self, session: u64)
+        requires room { HasRoom self.old 1 }
+        requires is_open { IsOpenFor self.old.seen 0 session }
+        ensures synced { self.new ≡ pushed self.old session call.Sync reply.Done }
+        ensures is_open { IsOpenFor self.new.seen 0 session }
+        ensures sound { IsSound self.new.seen }
+    {
+        self.history
+            .push_reserved(entry(session, Call::Sync, Reply::Done));
+    }
+}
+
+// The empty built-in table.
+fn built_in_tables(alloc: Global) -> Result<Tables, NoMemory>
+    ensures { IfOk result (λ tables. tables ≡ record { next = 1; rows = [] } ∷ []) }
+{
+    let mut tables = Tables::new(alloc);
+    match tables.push(Table::new(alloc)) {
+        Ok(()) => Ok(tables),
+        Err((_, fault)) => Err(fault),
+    }
+}
+
+fn entry(session: u64, call: Call, reply: Reply) -> Entry
+    ensures { result ≡ record { caller = 0; session = session; call = call; reply = reply } }
+{
+    Entry {
+        caller: 0,
+        session,
+        call,
+        reply,
+    }
+}
+
+fn look_outcome(place: Option<u32>) -> Reply
+    ensures { result ≡ look_reply place }
+{
+    match place {
+        Some(place) => Reply::Found(place),
+        None => Reply::Nothing,
+    }
+}
+
+fn end_outcome(ended: &Result<Option<(u32, u64)>, Refusal>) -> Reply
+    ensures { result ≡ end_reply ended.now }
+{
+    match ended {
+        Ok(_) => Reply::Done,
+        Err(refusal) => Reply::Refused(*refusal),
+    }
+}
