@@ -7,3 +7,4 @@ pub mod Looking
 pub mod Histories
 pub mod Reached
 pub mod Recording
+pub mod Desks

@@ -1,7 +1,13 @@
 -- One more entry of a machine that records its history.
-use Rattle.std.proofs.Common.{◌≡◌, ◌≢◌, ◌==◌, ◌<◌, ◌≤◌, ◌+◌, ◌^◌, ◌++◌, ◌∷◌, ◌∙◌, [], List, ℕ, Bool, true, false, Option, Some, None, All, length, refl, sym, ap, subst, arith}
+use Rattle.std.proofs.Common.{◌≡◌, ◌≢◌, ◌==◌, ◌<◌, ◌≤◌, ◌+◌, ◌^◌, ◌++◌, ◌∷◌, ◌∙◌, [], List, ℕ, Bool, true, false, Option, Some, None, All, length, refl, sym, ap, subst, arith, append-nil}
 use Rattle.std.proofs.lemmas.List.{length-set}
-use Rattle.std.proofs.lemmas.List.Elements.{All-push}
+use Rattle.std.proofs.lemmas.Bool.{true≢false}
+use Rattle.std.proofs.lemmas.List.Elements.{All-push, All-weaker}
+use Rattle.q4_value.specs.declared.row.Value.{Value}
+use Rattle.q4_machine.specs.Fits.{RowFits}
+use Rattle.q4_machine.specs.Valid.{IsValid}
+use Rattle.q4_machine.proofs.Reached.{valid_reached}
+use Rattle.q4_machine.proofs.Steps.{mode_opened}
 use Rattle.q4_machine.specs.declared.entry.Entry.{Entry}
 use Rattle.q4_machine.specs.declared.entry.Call.{Call}
 use Rattle.q4_machine.specs.declared.entry.Call.TheVariants.{Opened, Open, Insert, Look, End, Close, Sync}
@@ -89,3 +95,80 @@ looked_mode m s None there = some_there (mode_of (looked m s None).0 s) Empty (m
 
 pub mode_looked : (m : MachineState) (s : ℕ) (list : List ℕ) → mode_of m s ≢ None → mode_of (step m s (Look list)).0 s ≢ None
 mode_looked m s list there = looked_mode m s (pick m list) there
+
+-- ## Each call of an open session
+
+-- The machine and its history after one more entry, with the session still open.
+pub record Goes (m : MachineState) (history : List Entry) (s : ℕ) : Type 0 where
+  pub recorded : IsRecorded m history
+  pub is_open : IsOpenFor history 0 s
+
+go_on : (m m' : MachineState) (history : List Entry) (s : ℕ) (call : Call) (reply : Reply) → IsRecorded m history → step m s call ≡ (m', reply) → MayStep (state_after history) s call
+    → IsOpenFor history 0 s → mode_of (step (state_after history) s call).0 s ≢ None → length history + 1 < 2 ^ 61 → Goes m' (history ++ entry s call reply ∷ []) s
+go_on m m' history s call reply recorded steps may was there few = record {
+  recorded = recorded_push m m' history s call reply recorded steps may (λ _. was.opened_by) few;
+  is_open = open_after history s call reply was there;
+}
+
+pub insert_goes : (m m' : MachineState) (history : List Entry) (s t : ℕ) (row : List Value) (reply : Reply) → IsRecorded m history → step m s (Insert t row) ≡ (m', reply) → t < 1 → RowFits row
+    → IsOpenFor history 0 s → length history + 1 < 2 ^ 61 → Goes m' (history ++ entry s (Insert t row) reply ∷ []) s
+insert_goes m m' history s t row reply recorded steps place fits was few =
+    let one = recorded.sound.one_table in
+    go_on m m' history s (Insert t row) reply recorded steps (was.is_open, omega (arith, one, place), fits) was was.is_open few
+
+pub look_goes : (m m' : MachineState) (history : List Entry) (s : ℕ) (list : List ℕ) (reply : Reply) → IsRecorded m history → step m s (Look list) ≡ (m', reply)
+    → mode_of (state_after history) s ≡ Some NonOwner → All (λ place. place < 1) list → IsOpenFor history 0 s → length history + 1 < 2 ^ 61 → Goes m' (history ++ entry s (Look list) reply ∷ []) s
+look_goes m m' history s list reply recorded steps mode places was few =
+    let inside : All (λ place. place < length (state_after history).tables) list =
+        All-weaker (λ (place : ℕ). place < 1) (λ (place : ℕ). place < length (state_after history).tables) (λ place small. let one = recorded.sound.one_table in omega (arith, one, small)) list places in
+    go_on m m' history s (Look list) reply recorded steps (mode, inside) was (mode_looked (state_after history) s list was.is_open) few
+
+pub end_goes : (m m' : MachineState) (history : List Entry) (s : ℕ) (reply : Reply) → IsRecorded m history → step m s End ≡ (m', reply) → IsOpenFor history 0 s → length history + 1 < 2 ^ 61
+    → Goes m' (history ++ entry s End reply ∷ []) s
+end_goes m m' history s reply recorded steps was few =
+    go_on m m' history s End reply recorded steps was.is_open was (some_there (mode_of (step (state_after history) s End).0 s) NonOwner (mode_ended (state_after history) s was.is_open)) few
+
+pub end_mode : (history : List Entry) (s : ℕ) (reply : Reply) → IsOpenFor history 0 s → mode_of (state_after (history ++ entry s End reply ∷ [])) s ≡ Some NonOwner
+end_mode history s reply was = ap (λ (x : MachineState). mode_of x s) (state_push history (entry s End reply)) ∙ mode_ended (state_after history) s was.is_open
+
+pub sync_goes : (m : MachineState) (history : List Entry) (s : ℕ) → IsRecorded m history → IsOpenFor history 0 s → length history + 1 < 2 ^ 61 → Goes m (history ++ entry s Sync reply.Done ∷ []) s
+sync_goes m history s recorded was few = go_on m m history s Sync reply.Done recorded refl was.is_open was was.is_open few
+
+pub close_recorded : (m m' : MachineState) (history : List Entry) (s : ℕ) → IsRecorded m history → step m s Close ≡ (m', reply.Done) → IsOpenFor history 0 s → length history + 1 < 2 ^ 61
+    → IsRecorded m' (history ++ entry s Close reply.Done ∷ [])
+close_recorded m m' history s recorded steps was few = recorded_push m m' history s Close reply.Done recorded steps was.is_open (λ _. was.opened_by) few
+
+session_of : (a b : ℕ) → reply.Session a ≡ reply.Session b → a ≡ b
+session_of a b is = ap (λ r. number_of r) is where
+  number_of : Reply → ℕ
+  number_of (reply.Session n) = n
+  number_of reply.Done = 0
+  number_of (reply.Added n) = 0
+  number_of (reply.Found n) = 0
+  number_of reply.Nothing = 0
+  number_of (reply.Refused refusal) = 0
+
+cons_not_nil : (e : Entry) (es : List Entry) → e ∷ es ≡ [] → ⊥
+cons_not_nil e es is = cc is
+
+not_nil : (history : List Entry) → IsLegal history → history ≢ []
+not_nil history legal is = cons_not_nil legal.opening legal.rest (sym legal.whole ∙ is)
+
+opened_mode : (m : MachineState) → IsValid m → mode_of (step m m.next_session Open).0 m.next_session ≢ None
+opened_mode m valid =
+    some_there (mode_of (step m m.next_session Open).0 m.next_session) NonOwner (mode_opened m valid)
+
+pub open_goes : (m m' : MachineState) (history : List Entry) (s : ℕ) → IsRecorded m history → (session : ℕ) → step m session Open ≡ (m', reply.Session s) → length history + 1 < 2 ^ 61
+    → Goes m' (history ++ entry s Open (reply.Session s) ∷ []) s
+open_goes m m' history s recorded session steps few =
+    let number : m.next_session ≡ s = session_of m.next_session s (ap (λ r. r.1) steps) in
+    let same : (state_after history).next_session ≡ s = ap (λ (x : MachineState). x.next_session) (sym recorded.reached) ∙ number in
+    let here : step m s Open ≡ (m', reply.Session s) = steps in
+    let valid : IsValid (state_after history) = valid_reached history recorded.sound.legal history [] (sym (append-nil history)) (not_nil history recorded.sound.legal) in
+    record {
+      recorded = recorded_push m m' history s Open (reply.Session s) recorded here (sym same) (λ is. absurd (true≢false is)) few;
+      is_open = record {
+        is_open = subst (λ (x : MachineState). mode_of x s ≢ None) (sym (state_push history (entry s Open (reply.Session s)))) (subst (λ (k : ℕ). mode_of (step (state_after history) s Open).0 k ≢ None) same (opened_mode (state_after history) valid));
+        opened_by = opener_now history s (entry s Open (reply.Session s)) recorded.sound.by_zero refl refl refl;
+      };
+    }

@@ -206,6 +206,13 @@ valid_given_back m s t n valid was =
 opened_session : ℕ → OpenSession
 opened_session s = record { session = s; mode = NonOwner }
 
+-- a new session is in non-owner mode
+pub mode_opened : (m : MachineState) → IsValid m → mode_of (step m m.next_session Open).0 m.next_session ≡ Some NonOwner
+unfolding opened_session
+mode_opened m valid =
+    let key = λ (x : OpenSession). x.session in
+    ap (option_map (λ (x : OpenSession). x.mode)) (found_last key m.next_session m.sessions (opened_session m.next_session) (none_next key 0 m.next_session m.sessions valid.sessions) refl)
+
 -- a new session
 pub valid_opened : (m : MachineState) (session : ℕ) → IsValid m → IsValid (step m session Open).0
 unfolding opened_session

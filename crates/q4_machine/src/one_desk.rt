@@ -65,10 +65,13 @@ impl Desk for OneDesk {
         let Some(session) = self.current else {
             unreachable!()
         };
+        let Ok(copy) = row.copy(self.alloc) else {
+            return Err(InsertFault::Desk(DeskFault::Memory));
+        };
         if let Err(fault) = self.recorded.reserve(3) {
             return Err(InsertFault::Desk(fault));
         }
-        match self.recorded.insert(self.alloc, session, table, row) {
+        match self.recorded.insert(session, table, row, copy) {
             Ok(added) => {
                 self.recorded.sync(session);
                 Ok(added)

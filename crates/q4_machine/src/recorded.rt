@@ -92,7 +92,8 @@ impl RecordedMachine {
 
     pub fn open(&mut self) -> Result<u64, DeskFault>
         requires { HasRoom self.old 1 }
-        ensures opened { IfOk result (λ s. (self.new ≡ pushed self.old s call.Open (reply.Session s)) × IsOpenFor self.new.seen 0 s) }
+        ensures opened { IfOk result (λ s. self.new ≡ pushed self.old s call.Open (reply.Session s)) }
+        ensures is_open { IfOk result (λ s. IsOpenFor self.new.seen 0 s) }
         ensures sound { IsSound self.new.seen }
         ensures kept { OnErr result (self.new ≡ self.old) }
     {
@@ -106,32 +107,30 @@ impl RecordedMachine {
         }
     }
 
+    /// The copy of the row stands in the history.
     pub fn insert(
         &mut self,
-        alloc: Global,
         session: u64,
         table: u32,
         row: Row,
+        copy: Row,
     ) -> Result<Added, DeskFault>
         requires room { HasRoom self.old 1 }
         requires is_open { IsOpenFor self.old.seen 0 session }
         requires place { table < 1 }
         requires fits { RowFits row }
-        ensures added { IfOk result (λ added. (self.new ≡ pushed self.old session (call.Insert table row) (added_reply added)) × IsOpenFor self.new.seen 0 session) }
+        requires copy { copy ≡ row }
+        ensures added { IfOk result (λ added. self.new ≡ pushed self.old session (call.Insert table row) (added_reply added)) }
+        ensures is_open { OnOk result (IsOpenFor self.new.seen 0 session) }
         ensures sound { IsSound self.new.seen }
         ensures kept { OnErr result (self.new ≡ self.old) }
     {
-        let Ok(copy) = row.copy(alloc) else {
-            return Err(DeskFault::Memory);
-        };
         match self.machine.insert(session, table, row) {
-            Ok(Added::New(number)) => {
-                self.history.push_reserved(entry(
-                    session,
-                    Call::Insert(table, copy),
-                    Reply::Added(number),
-                ));
-                Ok(Added::New(number))
+            Ok(added) => {
+                let reply = added_outcome(added);
+                self.history
+                    .push_reserved(entry(session, Call::Insert(table, copy), reply));
+                Ok(added)
             }
             Err(NoMemory) => Err(DeskFault::Memory),
         }
@@ -213,6 +212,14 @@ fn entry(session: u64, call: Call, reply: Reply) -> Entry
         session,
         call,
         reply,
+    }
+}
+
+fn added_outcome(added: Added) -> Reply
+    ensures { result ≡ added_reply added }
+{
+    match added {
+        Added::New(number) => Reply::Added(number),
     }
 }
 

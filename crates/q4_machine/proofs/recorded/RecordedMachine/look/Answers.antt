@@ -1,0 +1,31 @@
+use Rattle.std.proofs.Common.{◌≡◌, ◌∙◌, Some, length, sym, ap, subst, arith}
+use Rattle.q4_machine.specs.declared.session.SessionMode.TheVariants.{NonOwner}
+use Rattle.q4_machine.specs.Machine.{mode_of}
+use Rattle.q4_machine.specs.History.{state_after, IsOpenFor}
+use Rattle.q4_machine.specs.Recorded.{Recorded, HasRoom, IsSound}
+use Rattle.q4_machine.proofs.Recording.{look_goes}
+use Rattle.q4_machine.proofs.recorded.RecordedMachine.look.Goals as goal
+
+pub invariant_of-self : goal.invariant_of-self
+invariant_of-self c =
+    let was = subst (λ (r : Recorded). IsOpenFor r.seen 0 c.args.session) (sym c.self.view_is) c.requires.is_open in
+    let room = subst (λ (r : Recorded). HasRoom r 1) (sym c.self.view_is) c.requires.room in
+    let mode = subst (λ (r : Recorded). mode_of (state_after r.seen) c.args.session ≡ Some NonOwner) (sym c.self.view_is) c.requires.mode in
+    let goes = look_goes c.self.inside.machine c.look-place.new.self c.self.inside.history.items c.args.session c.args.list _ c.self.invariant c.look-place.ensures mode c.requires.places was room.1 in
+    rw (c.push_reserved.ensures.items, c.entry.ensures, c.look_outcome.ensures) goes.recorded
+
+pub returns-clause-is_open : goal.returns-clause-is_open
+returns-clause-is_open c =
+    let was = subst (λ (r : Recorded). IsOpenFor r.seen 0 c.args.session) (sym c.self.view_is) c.requires.is_open in
+    let room = subst (λ (r : Recorded). HasRoom r 1) (sym c.self.view_is) c.requires.room in
+    let mode = subst (λ (r : Recorded). mode_of (state_after r.seen) c.args.session ≡ Some NonOwner) (sym c.self.view_is) c.requires.mode in
+    let goes = look_goes c.self.inside.machine c.look-place.new.self c.self.inside.history.items c.args.session c.args.list _ c.self.invariant c.look-place.ensures mode c.requires.places was room.1 in
+    rw (c.push_reserved.ensures.items, c.entry.ensures, c.look_outcome.ensures) goes.is_open
+
+pub returns-clause-sound : goal.returns-clause-sound
+returns-clause-sound c =
+    let was = subst (λ (r : Recorded). IsOpenFor r.seen 0 c.args.session) (sym c.self.view_is) c.requires.is_open in
+    let room = subst (λ (r : Recorded). HasRoom r 1) (sym c.self.view_is) c.requires.room in
+    let mode = subst (λ (r : Recorded). mode_of (state_after r.seen) c.args.session ≡ Some NonOwner) (sym c.self.view_is) c.requires.mode in
+    let goes = look_goes c.self.inside.machine c.look-place.new.self c.self.inside.history.items c.args.session c.args.list _ c.self.invariant c.look-place.ensures mode c.requires.places was room.1 in
+    rw (c.push_reserved.ensures.items, c.entry.ensures, c.look_outcome.ensures) goes.recorded.sound
