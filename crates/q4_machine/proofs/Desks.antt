@@ -14,9 +14,12 @@ use Rattle.q4_machine.specs.declared.entry.Reply.TheVariants as reply
 use Rattle.q4_machine.specs.declared.session.SessionMode.{SessionMode}
 use Rattle.q4_machine.specs.declared.session.SessionMode.TheVariants.{NonOwner, Empty, Owner}
 use Rattle.q4_machine.specs.Machine.{MachineState, mode_of}
-use Rattle.q4_machine.specs.Step.{end_reply, look_reply}
+use Rattle.q4_machine.specs.declared.table.Added.{Added}
+use Rattle.q4_machine.specs.declared.table.Added.TheVariants.{New}
+use Rattle.q4_machine.specs.declared.desk.ModeFault.TheVariants as fault
+use Rattle.q4_machine.specs.Step.{end_reply, look_reply, added_reply}
 use Rattle.q4_machine.specs.History.{state_after, is_change, is_owner, IsSettled, IsOpenFor}
-use Rattle.q4_machine.specs.Parts.{own_of, of_caller, Answer, Replied, ends_first, ending, Stands, IsPart, IsInOrder, Grows}
+use Rattle.q4_machine.specs.Parts.{own_of, of_caller, Answer, Replied, ends_first, ending, Stands, IsPart, IsInOrder, Grows, IsOpened, IsClosed, insert_answer, wait_answer, end_answer}
 use Rattle.q4_machine.specs.Recorded.{Recorded, DeskState, entry, pushed, HasRoom, IsSound}
 use Rattle.q4_machine.specs.OneDesk.{IsDesk}
 use Rattle.q4_machine.proofs.Lookup.{some_of}
@@ -44,9 +47,9 @@ desk_reserved r r' current desk same more = record {
   sound = subst IsSound (sym same) desk.sound;
   settled = λ place. subst (λ h. IsSettled h place) (sym same) (desk.settled place);
   room = λ s is.
-    let old = desk.room s is in
-    let size : length r'.seen ≡ length r.seen = ap length same in
-    (omega (arith, old.0, size, more), omega (arith, old.1, size));
+      let old = desk.room s is in
+      let size : length r'.seen ≡ length r.seen = ap length same in
+      (omega (arith, old.0, size, more), omega (arith, old.1, size));
 }
 
 -- What a call leaves: the desk afterwards, and the part that it added.
@@ -137,6 +140,11 @@ room_three r1 r2 r3 r4 a b e room first second third =
     let next = λ (x : Entry) (r : Recorded). let more : Recorded = record { seen = r.seen ++ x ∷ []; room = r.room } in more in
     subst (λ (r : Recorded). HasRoom r 1) (sym (third ∙ ap (next e) (second ∙ ap (next b) first))) (omega (arith, size2, size3, size4, room.0), omega (arith, size2, size3, size4, room.1))
 
+room_left : (r1 r2 : Recorded) (a : Entry) → HasRoom r1 2 → r2 ≡ record { seen = r1.seen ++ a ∷ []; room = r1.room } → HasRoom r2 1
+room_left r1 r2 a room first =
+    let size = length-append r1.seen (a ∷ []) in
+    subst (λ (r : Recorded). HasRoom r 1) (sym first) (omega (arith, size, room.0), omega (arith, size, room.1))
+
 -- ## Modes that differ
 
 mode_is : (x y : SessionMode) → Some x ≡ Some y → x ≡ y
@@ -216,10 +224,10 @@ looked_empty h r1 r2 r3 current s list r result is same room first second refuse
     let grew : r3.seen ≡ h ++ (a ∷ b ∷ []) = seen3 ∙ push_two h a b in
     let settled = settled_two h a b (settled_push (h ++ a ∷ []) b (settled_push h a was (ap is_owner mode)) refl) in
     called h (a ∷ b ∷ []) r3 current s (Look list) (Replied r) is grew sound open_for (room_look_two r1 r2 r3 (entry s End (end_reply result)) b room first second) settled
-        (record {
-          session_is = of_session s a (b ∷ []) refl (of_session s b [] refl (All-nil (λ (x : Entry). x.session ≡ s)));
-          cases = record { front = a ∷ []; back = []; cut = refl; own_front = ap (λ x. ending x 0 s) (sym (ap (ends_first (Look list)) mode)); own_back = refl; settled = settled (length (h ++ a ∷ [])) };
-        })
+    (record {
+      session_is = of_session s a (b ∷ []) refl (of_session s b [] refl (All-nil (λ (x : Entry). x.session ≡ s)));
+      cases = record { front = a ∷ []; back = []; cut = refl; own_front = ap (λ x. ending x 0 s) (sym (ap (ends_first (Look list)) mode)); own_back = refl; settled = settled (length (h ++ a ∷ [])) };
+    })
 
 -- a look that ends first, and removes a row
 pub looked_owner : (h : List Entry) (r1 r2 r3 r4 : Recorded) (current : Option ℕ) (s t n : ℕ) (list : List ℕ) (r : Reply) (result : Result (Option (ℕ × ℕ)) Refusal) → current ≡ Some s → r1.seen ≡ h → HasRoom r1 4
@@ -236,10 +244,10 @@ looked_owner h r1 r2 r3 r4 current s t n list r result is same room first second
     let grew : r4.seen ≡ h ++ (a ∷ b ∷ e ∷ []) = seen4 ∙ push_three h a b e in
     let settled = settled_three h a b e (settled_by_sync ((h ++ a ∷ []) ++ b ∷ []) e refl) in
     called h (a ∷ b ∷ e ∷ []) r4 current s (Look list) (Replied r) is grew sound open_for (room_three r1 r2 r3 r4 (entry s End (end_reply result)) b e room first second third) settled
-        (record {
-          session_is = of_session s a (b ∷ e ∷ []) refl (of_session s b (e ∷ []) refl (of_session s e [] refl (All-nil (λ (x : Entry). x.session ≡ s))));
-          cases = record { front = a ∷ []; back = e ∷ []; cut = refl; own_front = ap (λ x. ending x 0 s) (sym (ap (ends_first (Look list)) mode)); own_back = refl; settled = settled (length (h ++ a ∷ [])) };
-        })
+    (record {
+      session_is = of_session s a (b ∷ e ∷ []) refl (of_session s b (e ∷ []) refl (of_session s e [] refl (All-nil (λ (x : Entry). x.session ≡ s))));
+      cases = record { front = a ∷ []; back = e ∷ []; cut = refl; own_front = ap (λ x. ending x 0 s) (sym (ap (ends_first (Look list)) mode)); own_back = refl; settled = settled (length (h ++ a ∷ [])) };
+    })
 
 -- ## As the desk's clauses say it
 
@@ -247,4 +255,49 @@ pub part_for : (d : DeskState) (seen : List Entry) (current : Option ℕ) (sessi
     → Grows seen seen' (λ grown. IsPart seen grown 0 session call answer) → (s : ℕ) → d.current ≡ Some s → Grows d.seen seen' (λ grown. IsPart d.seen grown 0 s call answer)
 part_for d seen current session seen' call answer view is part =
     subst (λ (x : DeskState). (s : ℕ) → x.current ≡ Some s → Grows x.seen seen' (λ grown. IsPart x.seen grown 0 s call answer)) view
-        (λ s here. subst (λ k. Grows seen seen' (λ grown. IsPart seen grown 0 k call answer)) (some_of session s (sym is ∙ here)) part)
+    (λ s here. subst (λ k. Grows seen seen' (λ grown. IsPart seen grown 0 k call answer)) (some_of session s (sym is ∙ here)) part)
+
+-- the same part, of what is the same call and the same answer
+pub part_as : (old seen : List Entry) (s : ℕ) (call call' : Call) (answer answer' : Answer) → call ≡ call' → answer ≡ answer' → Grows old seen (λ grown. IsPart old grown 0 s call answer) → Grows old seen (λ grown. IsPart old grown 0 s call' answer')
+part_as old seen s call call' answer answer' same_call same_answer part =
+    subst (λ x. Grows old seen (λ grown. IsPart old grown 0 s x answer')) same_call (subst (λ x. Grows old seen (λ grown. IsPart old grown 0 s call x)) same_answer part)
+
+pub wait_replied : (place : Option ℕ) → Replied (look_reply place) ≡ wait_answer (Ok place)
+wait_replied (Some place) = refl
+wait_replied None = refl
+
+pub insert_replied : (added : Added) → Replied (added_reply added) ≡ insert_answer (Ok added)
+insert_replied (New number) = refl
+
+pub end_refused : (refusal : Refusal) → Replied (reply.Refused refusal) ≡ end_answer (Err fault.NotOwner)
+end_refused NotOwner = refl
+
+-- ## Opening and closing
+
+pub opened_desk : (h : List Entry) (r1 r2 : Recorded) (s : ℕ) → r1.seen ≡ h → HasRoom r1 2 → r2 ≡ pushed r1 s Open (reply.Session s) → ((place : ℕ) → IsSettled h place) → IsSound r2.seen → IsOpenFor r2.seen 0 s
+    → IsDesk r2 (Some s) × Grows h r2.seen (λ grown. IsOpened 0 grown (Ok s))
+opened_desk h r1 r2 s same room first was sound open_for =
+    let a = entry s Open (reply.Session s) in
+    let grew : r2.seen ≡ h ++ a ∷ [] = ap (λ (x : Recorded). x.seen) first ∙ ap (λ x. x ++ a ∷ []) same in
+    let settled = λ (place : ℕ). subst (λ x. IsSettled x place) (sym grew) (settled_push h a was refl place) in
+    (desk_of r2 (Some s) s refl sound open_for settled (room_left r1 r2 a room first), (a ∷ [], grew, (of_session s a [] refl (All-nil (λ (x : Entry). x.session ≡ s)), refl)))
+
+pub closed_desk : (h : List Entry) (r1 r2 : Recorded) (s : ℕ) → r1.seen ≡ h → r2 ≡ pushed r1 s Close reply.Done → ((place : ℕ) → IsSettled h place) → IsSound r2.seen
+    → IsDesk r2 None × Grows h r2.seen (λ grown. IsClosed 0 s grown)
+closed_desk h r1 r2 s same first was sound =
+    let a = entry s Close reply.Done in
+    let grew : r2.seen ≡ h ++ a ∷ [] = ap (λ (x : Recorded). x.seen) first ∙ ap (λ x. x ++ a ∷ []) same in (
+      record {
+        in_order = record { legal = sound.legal; one_table = sound.one_table; is_open = λ k is. absurd (none_some k is) };
+        sound = sound;
+        settled = λ place. subst (λ x. IsSettled x place) (sym grew) (settled_push h a was refl place);
+        room = λ k is. absurd (none_some k is);
+      },
+      (a ∷ [], grew, (of_session s a [] refl (All-nil (λ (x : Entry). x.session ≡ s)), refl)),
+    )
+
+pub closed_for : (d : DeskState) (seen : List Entry) (current : Option ℕ) (session : ℕ) (seen' : List Entry) → record { seen = seen; current = current } ≡ d → current ≡ Some session → Grows seen seen' (λ grown. IsClosed 0 session grown)
+    → (s : ℕ) → d.current ≡ Some s → Grows d.seen seen' (λ grown. IsClosed 0 s grown)
+closed_for d seen current session seen' view is closing =
+    subst (λ (x : DeskState). (s : ℕ) → x.current ≡ Some s → Grows x.seen seen' (λ grown. IsClosed 0 s grown)) view
+    (λ s here. subst (λ k. Grows seen seen' (λ grown. IsClosed 0 k grown)) (some_of session s (sym is ∙ here)) closing)

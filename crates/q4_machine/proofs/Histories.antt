@@ -39,7 +39,7 @@ split_push [] x (b ∷ before) e later is = absurd (nil_long before e later (con
 split_push (y ∷ xs) x [] e later is = inr (xs, ap (λ z. z ∷ xs) (cons_head is), sym (cons_tail is))
 split_push {X = X} (y ∷ xs) x (b ∷ before) e later is =
     elim (split_push xs x before e later (cons_tail is)) [
-      inl same ↦ inl (ap (λ z. z ∷ before) (sym (cons_head is)) ∙ ap (λ zs. y ∷ zs) same.0, same.1, same.2)
+      | inl same ↦ inl (ap (λ z. z ∷ before) (sym (cons_head is)) ∙ ap (λ zs. y ∷ zs) same.0, same.1, same.2)
       | inr cut ↦ inr (cut.0, ap (λ z. z ∷ xs) (cons_head is) ∙ ap (λ zs. b ∷ zs) cut.1, cut.2)
     ]
 
@@ -109,7 +109,7 @@ legal_push history e legal next few =
       whole = ap (λ h. h ++ e ∷ []) legal.whole;
       opens = legal.opens;
       each = λ before x later is. elim (split_push legal.rest e before x later is) [
-        inl same ↦ subst (λ b. IsNext (legal.opening ∷ b) x) (sym same.0) (subst (λ y. IsNext (legal.opening ∷ legal.rest) y) (sym same.1) (subst (λ h. IsNext h e) legal.whole next))
+        | inl same ↦ subst (λ b. IsNext (legal.opening ∷ b) x) (sym same.0) (subst (λ y. IsNext (legal.opening ∷ legal.rest) y) (sym same.1) (subst (λ h. IsNext h e) legal.whole next))
         | inr cut ↦ legal.each before x cut.0 cut.1
       ];
       few = omega (arith, size, sessions, few);
@@ -119,21 +119,21 @@ legal_push history e legal next few =
 -- an entry that is no change leaves all settled
 pub settled_push : (history : List Entry) (e : Entry) → ((place : ℕ) → IsSettled history place) → is_change (state_after history) e.call e.session e.reply ≡ false → (place : ℕ) → IsSettled (history ++ e ∷ []) place
 settled_push history e settled calm place before x later is within change = elim (split_push history e before x later is) [
-  inl same ↦
-    let here : is_change (state_after history) e.call e.session e.reply ≡ true =
-        subst (λ b. is_change (state_after b) e.call e.session e.reply ≡ true) same.0 (subst (λ (y : Entry). is_change (state_after before) y.call y.session y.reply ≡ true) same.1 change) in
-    absurd (true≢false (sym here ∙ calm))
+  | inl same ↦
+      let here : is_change (state_after history) e.call e.session e.reply ≡ true =
+      subst (λ b. is_change (state_after b) e.call e.session e.reply ≡ true) same.0 (subst (λ (y : Entry). is_change (state_after before) y.call y.session y.reply ≡ true) same.1 change) in
+      absurd (true≢false (sym here ∙ calm))
   | inr cut ↦
-    let old = settled (length before) before x cut.0 cut.1 (omega arith) change in
-    subst (Any (λ (y : Entry). y.call ≡ Sync)) (sym cut.2) (any_more (λ (y : Entry). y.call ≡ Sync) cut.0 (e ∷ []) old)
+      let old = settled (length before) before x cut.0 cut.1 (omega arith) change in
+      subst (Any (λ (y : Entry). y.call ≡ Sync)) (sym cut.2) (any_more (λ (y : Entry). y.call ≡ Sync) cut.0 (e ∷ []) old)
 ]
 
 -- a sync at the end settles all
 pub settled_by_sync : (history : List Entry) (e : Entry) → e.call ≡ Sync → (place : ℕ) → IsSettled (history ++ e ∷ []) place
 settled_by_sync history e sync place before x later is within change = elim (split_push history e before x later is) [
-  inl same ↦
-    let calm : is_change (state_after before) x.call x.session x.reply ≡ false = ap (λ (y : Entry). is_change (state_after before) y.call x.session x.reply) same.1 ∙ ap (λ c. is_change (state_after before) c x.session x.reply) sync in
-    absurd (true≢false (sym change ∙ calm))
+  | inl same ↦
+      let calm : is_change (state_after before) x.call x.session x.reply ≡ false = ap (λ (y : Entry). is_change (state_after before) y.call x.session x.reply) same.1 ∙ ap (λ c. is_change (state_after before) c x.session x.reply) sync in
+      absurd (true≢false (sym change ∙ calm))
   | inr cut ↦ subst (Any (λ (y : Entry). y.call ≡ Sync)) (sym cut.2) (Any-push (λ (y : Entry). y.call ≡ Sync) cut.0 e sync)
 ]
 

@@ -127,7 +127,7 @@ picked_step : (tables : List TableState) (place t : ℕ) (ts : List ℕ) (p : Pi
 picked_step tables place t ts p (Some n) is here later =
     let same : record { place = place; table = t; number = n } ≡ p = some_of (record { place = place; table = t; number = n }) p here in
     subst (λ (q : Picked). PickedAt tables place (t ∷ ts) q) same
-        (record { earlier = []; later = ts; cut = refl; place_is = omega arith; none_earlier = All-nil (λ (x : ℕ). NoneUnowned (table_at tables x).rows); number = is })
+    (record { earlier = []; later = ts; cut = refl; place_is = omega arith; none_earlier = All-nil (λ (x : ℕ). NoneUnowned (table_at tables x).rows); number = is })
 picked_step tables place t ts p None is here later =
     let rest = later here in
     record {

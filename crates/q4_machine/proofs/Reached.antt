@@ -28,13 +28,13 @@ opened_look tables list is = cc is
 row_unowned : (rows : List StoredRow) (n : ℕ) → All (λ (r : StoredRow). r.owner ≡ None) rows → option_and_then (λ (r : StoredRow). r.owner) (row_in rows n) ≡ None
 row_unowned [] n unowned = refl
 row_unowned (r ∷ rows) n unowned = elim (r.number == n) as (λ b. option_and_then (λ (x : StoredRow). x.owner) (cond b (Some r) (row_in rows n)) ≡ None) [
-  true ↦ All-head (λ (x : StoredRow). x.owner ≡ None) r rows unowned
+  | true ↦ All-head (λ (x : StoredRow). x.owner ≡ None) r rows unowned
   | false ↦ row_unowned rows n (All-tail (λ (x : StoredRow). x.owner ≡ None) r rows unowned)
 ]
 
 all_unowned : (tables : List TableState) → All (λ (t : TableState). All (λ (r : StoredRow). r.owner ≡ None) t.rows) tables → (place n : ℕ) → option_and_then (λ (r : StoredRow). r.owner) (row_in (table_at tables place).rows n) ≡ None
 all_unowned tables unowned place n = elim (cases_lt place (length tables)) [
-  inl inside ↦ row_unowned (table_at tables place).rows n (All-get_or (λ (t : TableState). All (λ (r : StoredRow). r.owner ≡ None) t.rows) tables place no_table inside unowned)
+  | inl inside ↦ row_unowned (table_at tables place).rows n (All-get_or (λ (t : TableState). All (λ (r : StoredRow). r.owner ≡ None) t.rows) tables place no_table inside unowned)
   | inr past ↦ ap (λ (t : TableState). option_and_then (λ (r : StoredRow). r.owner) (row_in t.rows n)) (get_or-eq_default tables no_table past)
 ]
 
@@ -66,7 +66,7 @@ walk o done (e ∷ es) valid each =
 pub valid_at : (history : List Entry) (legal : IsLegal history) (front later : List Entry) → legal.rest ≡ front ++ later → IsValid (state_after (legal.opening ∷ front))
 valid_at history legal front later cut =
     walk legal.opening [] front (opened_valid legal.opening legal.opens) (λ before e more is.
-        legal.each before e (more ++ later) (cut ∙ ap (λ xs. xs ++ later) is ∙ append_assoc before (e ∷ more) later))
+    legal.each before e (more ++ later) (cut ∙ ap (λ xs. xs ++ later) is ∙ append_assoc before (e ∷ more) later))
 
 -- each machine that a legal history reaches
 pub valid_reached : (history : List Entry) → IsLegal history → (front later : List Entry) → history ≡ front ++ later → front ≢ [] → IsValid (state_after front)

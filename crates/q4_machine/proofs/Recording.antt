@@ -120,7 +120,7 @@ pub look_goes : (m m' : MachineState) (history : List Entry) (s : ℕ) (list : L
     → mode_of (state_after history) s ≡ Some NonOwner → All (λ place. place < 1) list → IsOpenFor history 0 s → length history + 1 < 2 ^ 61 → Goes m' (history ++ entry s (Look list) reply ∷ []) s
 look_goes m m' history s list reply recorded steps mode places was few =
     let inside : All (λ place. place < length (state_after history).tables) list =
-        All-weaker (λ (place : ℕ). place < 1) (λ (place : ℕ). place < length (state_after history).tables) (λ place small. let one = recorded.sound.one_table in omega (arith, one, small)) list places in
+    All-weaker (λ (place : ℕ). place < 1) (λ (place : ℕ). place < length (state_after history).tables) (λ place small. let one = recorded.sound.one_table in omega (arith, one, small)) list places in
     go_on m m' history s (Look list) reply recorded steps (mode, inside) was (mode_looked (state_after history) s list was.is_open) few
 
 pub end_goes : (m m' : MachineState) (history : List Entry) (s : ℕ) (reply : Reply) → IsRecorded m history → step m s End ≡ (m', reply) → IsOpenFor history 0 s → length history + 1 < 2 ^ 61

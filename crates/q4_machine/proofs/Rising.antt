@@ -20,7 +20,7 @@ pub rise-filter : {X : Type 0} (f : X → ℕ) (p : X → Bool) (low next : ℕ)
 rise-filter f p low next [] rise = tt
 rise-filter f p low next (x ∷ xs) rise =
     elim (p x) as (λ b. RiseBelow low next (map f (cond b (x ∷ filter p xs) (filter p xs)))) [
-      true ↦ (rise.0, rise.1, rise-filter f p (f x) next xs rise.2)
+      | true ↦ (rise.0, rise.1, rise-filter f p (f x) next xs rise.2)
       | false ↦ rise_wider (f x) low next next (map f (filter p xs)) (omega (arith, rise.0)) (omega arith) (rise-filter f p (f x) next xs rise.2)
     ]
 

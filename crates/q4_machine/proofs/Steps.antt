@@ -67,8 +67,8 @@ owner_apart m t table q k other = ap (λ (x : TableState). owner_in x.rows k) (g
 pub owner_elsewhere : (m : MachineState) (t n : ℕ) (table : TableState) → t < length m.tables → ((k : ℕ) → k ≢ n → owner_in table.rows k ≡ owner_in (table_at m.tables t).rows k)
     → (q k : ℕ) → (q ≡ t → k ≡ n → ⊥) → owner_at (with_table m t table) q k ≡ owner_at m q k
 owner_elsewhere m t n table inside rows q k other = elim (cases_eq q t) [
-  inl here ↦
-    ap (λ x. owner_at (with_table m t table) x k) here ∙ owner_same m t table k inside ∙ rows k (other here) ∙ ap (λ x. owner_at m x k) (sym here)
+  | inl here ↦
+      ap (λ x. owner_at (with_table m t table) x k) here ∙ owner_same m t table k inside ∙ rows k (other here) ∙ ap (λ x. owner_at m x k) (sym here)
   | inr apart ↦ owner_apart m t table q k apart
 ]
 
@@ -78,7 +78,7 @@ row_of_owner o s is none = none_some s (ap (option_and_then (λ (r : StoredRow).
 -- a row with an owner is a row of a table that is there
 pub owned_inside : (m : MachineState) (t n s : ℕ) → owner_at m t n ≡ Some s → (t < length m.tables) × (row_in (table_at m.tables t).rows n ≢ None)
 owned_inside m t n s is = elim (cases_lt t (length m.tables)) [
-  inl inside ↦ (inside, row_of_owner (row_in (table_at m.tables t).rows n) s is)
+  | inl inside ↦ (inside, row_of_owner (row_in (table_at m.tables t).rows n) s is)
   | inr past ↦ absurd (none_some s (sym (ap (λ (x : TableState). owner_in x.rows n) (get_or-eq_default m.tables no_table past)) ∙ is))
 ]
 
@@ -114,7 +114,7 @@ pub valid_quiet : (m : MachineState) (s : ℕ) (old new : SessionMode) → IsVal
 valid_quiet m s old new valid was before after =
     let given : mode_of (with_session m s new) s ≡ Some new = mode_given s new m.sessions (mode_there m s old was) in
     let agree = agrees_quiet (mode_of m) (mode_of (with_session m s new)) (owner_at m) (owner_at m) s (agrees m valid)
-        (λ t n. refl) (λ j other. mode_other s j new m.sessions other) (λ t n is. before t n (sym was ∙ is)) (λ t n is. after t n (sym given ∙ is)) in
+    (λ t n. refl) (λ j other. mode_other s j new m.sessions other) (λ t n is. before t n (sym was ∙ is)) (λ t n is. after t n (sym given ∙ is)) in
     record { tables = valid.tables; begins = valid.begins; sessions = sessions_moved m s new valid.sessions; owns = agree.owns; owned = agree.owned }
 
 -- a session that owns nothing takes a row that nobody owns
@@ -126,10 +126,10 @@ valid_taken m s t n valid was inside there free =
     let m' = with_session (with_table m t taken) s (Owner t n) in
     let given : mode_of m' s ≡ Some (Owner t n) = mode_given s (Owner t n) m.sessions (mode_there m s NonOwner was) in
     let agree = agrees_take (mode_of m) (mode_of m') (owner_at m) (owner_at m') s t n (agrees m valid)
-        (λ q k is. not_owner q k (sym was ∙ is)) free
-        (owner_same m t taken n inside ∙ owner_given n (Some s) table.rows there)
-        (owner_elsewhere m t n taken inside (λ k other. owner_other n k (Some s) table.rows other))
-        given (λ j other. mode_other s j (Owner t n) m.sessions other) in
+    (λ q k is. not_owner q k (sym was ∙ is)) free
+    (owner_same m t taken n inside ∙ owner_given n (Some s) table.rows there)
+    (owner_elsewhere m t n taken inside (λ k other. owner_other n k (Some s) table.rows other))
+    given (λ j other. mode_other s j (Owner t n) m.sessions other) in
     record {
       tables = All-set IsValidTable m.tables t taken (table-with_owner n (Some s) table (All-get_or IsValidTable m.tables t no_table inside valid.tables)) valid.tables;
       begins = valid.begins;
@@ -153,9 +153,9 @@ valid_removed m s t n valid was =
     let m' = with_session (with_table m t rest) s NonOwner in
     let given : mode_of m' s ≡ Some NonOwner = mode_given s NonOwner m.sessions (mode_there m s (Owner t n) was) in
     let agree = agrees_leave (mode_of m) (mode_of m') (owner_at m) (owner_at m') s t n (agrees m valid) was
-        (owner_same m t rest n inside.0 ∙ none_gone n table.rows)
-        (owner_elsewhere m t n rest inside.0 (λ k other. owner_gone n k table.rows other))
-        (λ q k is. not_owner q k (sym given ∙ is)) (λ j other. mode_other s j NonOwner m.sessions other) in
+    (owner_same m t rest n inside.0 ∙ none_gone n table.rows)
+    (owner_elsewhere m t n rest inside.0 (λ k other. owner_gone n k table.rows other))
+    (λ q k is. not_owner q k (sym given ∙ is)) (λ j other. mode_other s j NonOwner m.sessions other) in
     record {
       tables = All-set IsValidTable m.tables t rest (table-without_row n table (All-get_or IsValidTable m.tables t no_table inside.0 valid.tables)) valid.tables;
       begins = valid.begins;
@@ -180,7 +180,7 @@ pub valid_left : (m : MachineState) (s : ℕ) (old : SessionMode) → IsValid m 
 valid_left m s old valid was before =
     let gone : mode_of (with_none m s) s ≡ None = mode_without s m.sessions in
     let agree = agrees_quiet (mode_of m) (mode_of (with_none m s)) (owner_at m) (owner_at m) s (agrees m valid)
-        (λ t n. refl) (λ j other. mode_without_other s j m.sessions other) (λ t n is. before t n (sym was ∙ is)) (λ t n is. not_there t n (sym gone ∙ is)) in
+    (λ t n. refl) (λ j other. mode_without_other s j m.sessions other) (λ t n is. before t n (sym was ∙ is)) (λ t n is. not_there t n (sym gone ∙ is)) in
     record { tables = valid.tables; begins = valid.begins; sessions = sessions_left m s valid.sessions; owns = agree.owns; owned = agree.owned }
 
 -- a session that owns a row gives it back and closes
@@ -192,9 +192,9 @@ valid_given_back m s t n valid was =
     let m' = with_none (with_table m t given) s in
     let gone : mode_of m' s ≡ None = mode_without s m.sessions in
     let agree = agrees_leave (mode_of m) (mode_of m') (owner_at m) (owner_at m') s t n (agrees m valid) was
-        (owner_same m t given n inside.0 ∙ owner_given n None table.rows inside.1)
-        (owner_elsewhere m t n given inside.0 (λ k other. owner_other n k None table.rows other))
-        (λ q k is. not_there q k (sym gone ∙ is)) (λ j other. mode_without_other s j m.sessions other) in
+    (owner_same m t given n inside.0 ∙ owner_given n None table.rows inside.1)
+    (owner_elsewhere m t n given inside.0 (λ k other. owner_other n k None table.rows other))
+    (λ q k is. not_there q k (sym gone ∙ is)) (λ j other. mode_without_other s j m.sessions other) in
     record {
       tables = All-set IsValidTable m.tables t given (table-with_owner n None table (All-get_or IsValidTable m.tables t no_table inside.0 valid.tables)) valid.tables;
       begins = valid.begins;
@@ -223,8 +223,8 @@ valid_opened m session valid =
     let none : found key s m.sessions ≡ None = none_next key 0 s m.sessions valid.sessions in
     let given : mode_of m' s ≡ Some NonOwner = ap (option_map (λ (x : OpenSession). x.mode)) (found_last key s m.sessions (opened_session s) none refl) in
     let agree = agrees_quiet (mode_of m) (mode_of m') (owner_at m) (owner_at m') s (agrees m valid)
-        (λ t n. refl) (λ j other. ap (option_map (λ (x : OpenSession). x.mode)) (found_before key j m.sessions (opened_session s) other))
-        (λ t n is. not_there t n (sym (ap (option_map (λ (x : OpenSession). x.mode)) none) ∙ is)) (λ t n is. not_owner t n (sym given ∙ is)) in
+    (λ t n. refl) (λ j other. ap (option_map (λ (x : OpenSession). x.mode)) (found_before key j m.sessions (opened_session s) other))
+    (λ t n is. not_there t n (sym (ap (option_map (λ (x : OpenSession). x.mode)) none) ∙ is)) (λ t n is. not_owner t n (sym given ∙ is)) in
     record {
       tables = valid.tables;
       begins = omega arith;
@@ -244,11 +244,11 @@ valid_added m session t row valid inside fits =
     let none : found key table.next table.rows ≡ None = none_next key 0 table.next table.rows was.numbers in
     let owner = λ (o : Option StoredRow). option_and_then (λ (r : StoredRow). r.owner) o in
     let same_rows = λ (k : ℕ). elim (cases_eq k table.next) as (λ _. owner_in more.rows k ≡ owner_in table.rows k) [
-      inl here ↦ ap owner (found_last key k table.rows (new_row table row) (ap (λ x. found key x table.rows) here ∙ none) (sym here)) ∙ sym (ap owner (ap (λ x. found key x table.rows) here ∙ none))
+      | inl here ↦ ap owner (found_last key k table.rows (new_row table row) (ap (λ x. found key x table.rows) here ∙ none) (sym here)) ∙ sym (ap owner (ap (λ x. found key x table.rows) here ∙ none))
       | inr other ↦ ap owner (found_before key k table.rows (new_row table row) other)
     ] in
     let same = λ (q k : ℕ). elim (cases_eq q t) as (λ _. owner_at (with_table m t more) q k ≡ owner_at m q k) [
-      inl here ↦ ap (λ x. owner_at (with_table m t more) x k) here ∙ owner_same m t more k inside ∙ same_rows k ∙ ap (λ x. owner_at m x k) (sym here)
+      | inl here ↦ ap (λ x. owner_at (with_table m t more) x k) here ∙ owner_same m t more k inside ∙ same_rows k ∙ ap (λ x. owner_at m x k) (sym here)
       | inr apart ↦ owner_apart m t more q k apart
     ] in
     record {

@@ -26,11 +26,11 @@ pub agrees_quiet : (mode mode' : ℕ → Option SessionMode) (owner owner' : ℕ
     → ((t n : ℕ) → owner' t n ≡ owner t n) → ((j : ℕ) → j ≢ s → mode' j ≡ mode j) → OwnsNothing (mode s) → OwnsNothing (mode' s) → Agrees mode' owner'
 agrees_quiet mode mode' owner owner' s agree same others before after = record {
   owns = λ j t n is. elim (cases_eq j s) [
-    inl here ↦ absurd (after t n (ap mode' (sym here) ∙ is))
+    | inl here ↦ absurd (after t n (ap mode' (sym here) ∙ is))
     | inr other ↦ same t n ∙ agree.owns j t n (sym (others j other) ∙ is)
   ];
   owned = λ j t n is. elim (cases_eq j s) [
-    inl here ↦ absurd (before t n (ap mode (sym here) ∙ agree.owned j t n (sym (same t n) ∙ is)))
+    | inl here ↦ absurd (before t n (ap mode (sym here) ∙ agree.owned j t n (sym (same t n) ∙ is)))
     | inr other ↦ others j other ∙ agree.owned j t n (sym (same t n) ∙ is)
   ];
 }
@@ -56,7 +56,7 @@ owner_number t n q k is = ap (λ o. number_of o) is where
 
 same_row : (t n q k : ℕ) → ((q ≡ t) × (k ≡ n)) ⊎ (q ≡ t → k ≡ n → ⊥)
 same_row t n q k = elim (cases_eq q t) [
-  inl here ↦ elim (cases_eq k n) [ inl number ↦ inl (here, number) | inr other ↦ inr (λ a b. other b) ]
+  | inl here ↦ elim (cases_eq k n) [ inl number ↦ inl (here, number) | inr other ↦ inr (λ a b. other b) ]
   | inr other ↦ inr (λ a b. other a)
 ]
 
@@ -69,21 +69,21 @@ pub agrees_take : (mode mode' : ℕ → Option SessionMode) (owner owner' : ℕ 
     → mode' s ≡ Some (Owner t n) → ((j : ℕ) → j ≢ s → mode' j ≡ mode j) → Agrees mode' owner'
 agrees_take mode mode' owner owner' s t n agree before free taken rows took others = record {
   owns = λ j q k is. elim (cases_eq j s) [
-    inl here ↦
-      let e : Some (Owner t n) ≡ Some (Owner q k) = sym took ∙ ap mode' (sym here) ∙ is in
-      along owner' t n q k (sym (owner_place t n q k e)) (sym (owner_number t n q k e)) ∙ taken ∙ ap Some (sym here)
+    | inl here ↦
+        let e : Some (Owner t n) ≡ Some (Owner q k) = sym took ∙ ap mode' (sym here) ∙ is in
+        along owner' t n q k (sym (owner_place t n q k e)) (sym (owner_number t n q k e)) ∙ taken ∙ ap Some (sym here)
     | inr other ↦
-      let owner_is : owner q k ≡ Some j = agree.owns j q k (sym (others j other) ∙ is) in
-      rows q k (λ a b. none_some j (sym free ∙ sym (along owner t n q k a b) ∙ owner_is)) ∙ owner_is
+        let owner_is : owner q k ≡ Some j = agree.owns j q k (sym (others j other) ∙ is) in
+        rows q k (λ a b. none_some j (sym free ∙ sym (along owner t n q k a b) ∙ owner_is)) ∙ owner_is
   ];
   owned = λ j q k is. elim (same_row t n q k) [
-    inl here ↦
-      let e : Some j ≡ Some s = sym is ∙ along owner' t n q k here.0 here.1 ∙ taken in
-      let session : j ≡ s = some_of j s e in
-      ap mode' session ∙ took ∙ ap (λ x. Some (Owner x n)) (sym here.0) ∙ ap (λ x. Some (Owner q x)) (sym here.1)
+    | inl here ↦
+        let e : Some j ≡ Some s = sym is ∙ along owner' t n q k here.0 here.1 ∙ taken in
+        let session : j ≡ s = some_of j s e in
+        ap mode' session ∙ took ∙ ap (λ x. Some (Owner x n)) (sym here.0) ∙ ap (λ x. Some (Owner q x)) (sym here.1)
     | inr other ↦
-      let mode_is : mode j ≡ Some (Owner q k) = agree.owned j q k (sym (rows q k other) ∙ is) in
-      others j (λ here. before q k (ap mode (sym here) ∙ mode_is)) ∙ mode_is
+        let mode_is : mode j ≡ Some (Owner q k) = agree.owned j q k (sym (rows q k other) ∙ is) in
+        others j (λ here. before q k (ap mode (sym here) ∙ mode_is)) ∙ mode_is
   ];
 }
 
@@ -93,16 +93,16 @@ pub agrees_leave : (mode mode' : ℕ → Option SessionMode) (owner owner' : ℕ
     → OwnsNothing (mode' s) → ((j : ℕ) → j ≢ s → mode' j ≡ mode j) → Agrees mode' owner'
 agrees_leave mode mode' owner owner' s t n agree had gone rows after others = record {
   owns = λ j q k is. elim (cases_eq j s) [
-    inl here ↦ absurd (after q k (ap mode' (sym here) ∙ is))
+    | inl here ↦ absurd (after q k (ap mode' (sym here) ∙ is))
     | inr other ↦
-      let owner_is : owner q k ≡ Some j = agree.owns j q k (sym (others j other) ∙ is) in
-      rows q k (λ a b. other (some_of j s (sym owner_is ∙ along owner t n q k a b ∙ agree.owns s t n had))) ∙ owner_is
+        let owner_is : owner q k ≡ Some j = agree.owns j q k (sym (others j other) ∙ is) in
+        rows q k (λ a b. other (some_of j s (sym owner_is ∙ along owner t n q k a b ∙ agree.owns s t n had))) ∙ owner_is
   ];
   owned = λ j q k is. elim (same_row t n q k) [
-    inl here ↦ absurd (none_some j (sym gone ∙ sym (along owner' t n q k here.0 here.1) ∙ is))
+    | inl here ↦ absurd (none_some j (sym gone ∙ sym (along owner' t n q k here.0 here.1) ∙ is))
     | inr other ↦
-      let mode_is : mode j ≡ Some (Owner q k) = agree.owned j q k (sym (rows q k other) ∙ is) in
-      others j (λ here.
+        let mode_is : mode j ≡ Some (Owner q k) = agree.owned j q k (sym (rows q k other) ∙ is) in
+        others j (λ here.
         let e : Some (Owner t n) ≡ Some (Owner q k) = sym had ∙ ap mode (sym here) ∙ mode_is in
         other (sym (owner_place t n q k e)) (sym (owner_number t n q k e))) ∙ mode_is
   ];

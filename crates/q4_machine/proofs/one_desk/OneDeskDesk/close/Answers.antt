@@ -1,0 +1,22 @@
+use Rattle.std.proofs.Common.{◌≡◌, ◌∙◌, ℕ, List, Option, Some, None, Ok, Err, OnErr, sym, ap, subst, refl}
+use Rattle.q4_machine.specs.declared.entry.Entry.{Entry}
+use Rattle.q4_machine.specs.declared.entry.Call.TheVariants as call
+use Rattle.q4_machine.specs.declared.session.SessionMode.TheVariants.{NonOwner, Empty, Owner}
+use Rattle.q4_machine.specs.Machine.{mode_of}
+use Rattle.q4_machine.specs.History.{state_after}
+use Rattle.q4_machine.specs.Parts.{Replied}
+use Rattle.q4_machine.specs.Step.{look_reply, added_reply, end_reply}
+use Rattle.q4_machine.specs.Recorded.{Recorded}
+use Rattle.q4_machine.specs.OneDesk.{IsDesk}
+use Rattle.q4_machine.proofs.Desks.{closed_desk, closed_for}
+use Rattle.q4_machine.proofs.one_desk.OneDeskDesk.close.Goals as goal
+
+pub invariant_of-self : goal.invariant_of-self
+invariant_of-self c =
+    let closed = closed_desk c.self.inside.recorded.seen c.self.inside.recorded c.close.new.self c.in-Some.session refl c.close.ensures.closed c.self.invariant.settled c.close.ensures.sound in
+    closed.0
+
+pub returns-in-Some-clause-entry : goal.returns-in-Some-clause-entry
+returns-in-Some-clause-entry c =
+    let closed = closed_desk c.self.inside.recorded.seen c.self.inside.recorded c.close.new.self c.in-Some.session refl c.close.ensures.closed c.self.invariant.settled c.close.ensures.sound in
+    closed_for c.args.self.now c.self.inside.recorded.seen c.self.inside.current c.in-Some.session c.close.new.self.seen c.self.view_is c.in-Some.is closed.1
