@@ -3,11 +3,13 @@
 
 mod bytes;
 mod column;
+mod number;
 mod row;
 mod words;
 
 pub use bytes::Bytes;
 pub use column::{Column, Kind};
+pub use number::{parse_signed, parse_unsigned};
 pub use row::{Row, Value};
 pub use words::Words;
 
