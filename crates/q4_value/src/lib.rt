@@ -3,12 +3,16 @@
 
 mod bytes;
 mod column;
+mod columns;
+mod fit;
 mod number;
 mod row;
 mod words;
 
 pub use bytes::Bytes;
 pub use column::{Column, Kind};
+pub use columns::Columns;
+pub use fit::{RowFault, fits, row_size};
 pub use number::{parse_signed, parse_unsigned};
 pub use row::{Row, Value};
 pub use words::Words;

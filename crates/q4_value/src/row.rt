@@ -73,6 +73,13 @@ impl Row {
         self.values.get(place)
     }
 
+    // The values in order.
+    pub(crate) fn as_slice(&self) -> &[Value]
+        ensures { result.now ≡ self.now }
+    {
+        self.values.as_slice()
+    }
+
     pub fn copy(&self, alloc: Global) -> Result<Row, NoMemory>
         ensures { IfOk result (λ row. row ≡ self.now) }
     {
