@@ -1,3 +1,5 @@
 pub mod Numbers
 pub mod Rows
 pub mod Fitting
+pub mod Spelled
+pub mod ReadingLaws

@@ -1,2 +1,4 @@
 pub mod Row
 pub mod Fit
+pub mod Spelling
+pub mod Reading

@@ -1,4 +1,6 @@
 ghost use Rattle.std.specs.Prelude.{◌≡◌, ◌^◌, ◌<◌, ◌≤◌, length, OnOk, IfErr};
+ghost use Rattle.q4_value.specs.Row.{kind_of, IsValue, IsRowOf, value_size as size_of_value, row_size as size_of, Fits};
+ghost use Rattle.q4_value.specs.Fit.{ValueMisfits, Misfits};
 
 use crate::column::{Column, Kind};
 use crate::row::{Row, Value};
@@ -19,9 +21,6 @@ pub enum RowFault {
     /// The row's size exceeds 1,048,576 bytes.
     Long,
 }
-
-ghost use Rattle.q4_value.specs.Row.{kind_of, IsValue, IsRowOf, row_size as size_of, Fits};
-ghost use Rattle.q4_value.specs.Fit.{ValueMisfits, Misfits};
 
 /// Whether the row fits the columns: as many values as columns, each of its column's kind, no text
 /// over 65,535 bytes, and a size of at most 1,048,576. The first fault in this order is told, and
@@ -86,10 +85,8 @@ pub fn row_size(row: &Row) -> u64
     size
 }
 
-ghost use Rattle.q4_value.specs.Row.{value_size as one_size};
-
 fn value_size(value: &Value) -> u64
-    ensures { result ≡ one_size value.now }
+    ensures { result ≡ size_of_value value.now }
 {
     match value {
         Value::Int(_) => 8,
