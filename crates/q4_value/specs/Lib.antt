@@ -2,3 +2,4 @@ pub mod Row
 pub mod Fit
 pub mod Spelling
 pub mod Reading
+pub mod Escape

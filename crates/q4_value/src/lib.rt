@@ -4,6 +4,7 @@
 mod bytes;
 mod column;
 mod columns;
+mod escaping;
 mod fit;
 mod number;
 mod reading;
@@ -14,6 +15,7 @@ mod writing;
 pub use bytes::Bytes;
 pub use column::{Column, Kind};
 pub use columns::Columns;
+pub use escaping::{EscapeFault, escape, unescape};
 pub use fit::{RowFault, fits, row_size};
 pub use number::{parse_signed, parse_unsigned};
 pub use reading::{RowBytes, read_row};

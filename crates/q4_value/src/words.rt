@@ -1,4 +1,4 @@
-ghost use Rattle.std.specs.Prelude.{◌≡◌, IfOk};
+ghost use Rattle.std.specs.Prelude.{◌≡◌, string_bytes, IfOk};
 
 use crate::NoMemory;
 use std::alloc::Global;
@@ -27,6 +27,13 @@ impl Words {
             Ok(text) => Ok(Words { text }),
             Err(_) => Err(NoMemory),
         }
+    }
+
+    // The text as it is, without a copy.
+    pub(crate) fn from_string(text: String) -> Words
+        ensures { result ≡ string_bytes text }
+    {
+        Words { text }
     }
 
     pub fn as_str(&self) -> &str
