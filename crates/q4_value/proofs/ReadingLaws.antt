@@ -115,3 +115,9 @@ pub read_more : (bytes rest after : List ℕ) (row : List Value) (v : Value) →
 read_more bytes rest after row v e more =
     e ∙ ap (λ bs. row_bytes row ++ bs) more ∙ sym (append_assoc (row_bytes row) (value_bytes v) after)
     ∙ ap (λ bs. bs ++ after) (flat_map_more value_bytes [] row v)
+
+pub rows_once : (columns : List Column) (one other : List Value) (more rest : List ℕ) → IsRowOf columns one → IsRowOf columns other → row_bytes one ++ more ≡ row_bytes other ++ rest → (one ≡ other) × (more ≡ rest)
+rows_once columns one other more rest one_of other_of e =
+    let c = continues columns [] one other more rest one_of (subst (λ cs. IsRowOf cs other) (sym (append-nil columns)) other_of) e in
+    let none = no_columns c.others c.others_of in
+    (sym (append-nil one) ∙ ap (λ vs. one ++ vs) (sym none) ∙ sym c.row_is, c.rest_is ∙ ap (λ vs. row_bytes vs ++ rest) none)

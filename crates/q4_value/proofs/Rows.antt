@@ -1,7 +1,7 @@
 -- Rows that grow value by value beside their columns, and how large they get.
-use Rattle.std.proofs.Common.{◌≡◌, ℕ, ◌+◌, ◌*◌, ◌<◌, ◌≤◌, List, [], ◌∷◌, ◌++◌, length, get_or, take, drop, map, sym, ap, ◌∙◌, arith}
+use Rattle.std.proofs.Common.{◌≡◌, ℕ, ◌+◌, ◌*◌, ◌<◌, ◌≤◌, List, [], ◌∷◌, ◌++◌, length, get_or, take, drop, map, refl, sym, ap, ◌∙◌, arith}
 use Rattle.std.specs.List.{All}
-use Rattle.std.proofs.lemmas.List.{take_more, drop_more, take-append-drop, map_push}
+use Rattle.std.proofs.lemmas.List.{take_at, drop_at, take_more, drop_more, take-append-drop, map_push}
 use Rattle.std.proofs.lemmas.List.Elements.{All-push, All-weaker}
 use Rattle.std.proofs.lemmas.List.Sums.{sum_by-le}
 use Rattle.q4_value.specs.declared.column.Column.{Column}
@@ -16,6 +16,13 @@ take_next xs i x lt is = take_more xs i x lt ∙ ap (λ y. take i xs ++ y ∷ []
 -- a list as what is before a place, the element there, and what is after
 pub parted : {X : Type 0} (xs : List X) (i : ℕ) (x : X) → i < length xs → x ≡ get_or xs i x → xs ≡ take i xs ++ x ∷ drop (i + 1) xs
 parted xs i x lt is = sym (take-append-drop i xs) ∙ ap (λ ys. take i xs ++ ys) (drop_more xs i x lt ∙ ap (λ y. y ∷ drop (i + 1) xs) (sym is))
+
+-- fronts of one length
+pub append_same : {A : Type 0} (a b x y : List A) → length a ≡ length b → a ++ x ≡ b ++ y → (a ≡ b) × (x ≡ y)
+append_same a b x y len e = (
+  sym (take_at a x (length a) refl) ∙ ap (take (length a)) e ∙ take_at b y (length a) (sym len),
+  sym (drop_at a x (length a) refl) ∙ ap (drop (length a)) e ∙ drop_at b y (length a) (sym len),
+)
 
 pub row_push : (columns : List Column) (row : List Value) (c : Column) (v : Value) → IsRowOf columns row → kind_of v ≡ c.kind → IsValue v → IsRowOf (columns ++ c ∷ []) (row ++ v ∷ [])
 row_push columns row c v so_far kind value = record {

@@ -1,8 +1,8 @@
 -- A value's spelling shows where it ends and which value it is.
-use Rattle.std.proofs.Common.{◌≡◌, ℕ, ℤ, ◌+◌, ◌≤◌, List, [], ◌∷◌, ◌++◌, length, take, drop, FitsSigned, inl, inr, refl, sym, ap, subst, ◌∙◌, arith}
+use Rattle.std.proofs.Common.{◌≡◌, ℕ, ℤ, ◌+◌, ◌≤◌, List, [], ◌∷◌, ◌++◌, length, take, FitsSigned, inl, inr, refl, sym, ap, subst, ◌∙◌, arith}
 use Rattle.std.specs.Int.{w32, w64, to_be_bytes, from_be_bytes, cast_unsigned, cast_signed}
 use Rattle.std.specs.Str.{IsUtf8}
-use Rattle.std.proofs.lemmas.List.{take_at, drop_at, length-append}
+use Rattle.std.proofs.lemmas.List.{take_at, length-append}
 use Rattle.std.proofs.lemmas.List.Concat.{flat_map-cons}
 use Rattle.std.proofs.lemmas.List.Sums.{sum_by-cons}
 use Rattle.std.proofs.lemmas.Nat.{from_be_bytes-to_be_bytes_4, from_be_bytes-to_be_bytes_8}
@@ -15,13 +15,7 @@ use Rattle.q4_value.specs.declared.row.Value.TheVariants.{Int, Word}
 use Rattle.q4_value.specs.Row.{kind_of, IsValue, value_size, row_size}
 use Rattle.q4_value.specs.Spelling.{value_bytes, row_bytes}
 use Rattle.q4_value.specs.Reading.{told_length, IsUnreadable}
-
--- fronts of one length
-append_same : {A : Type 0} (a b x y : List A) → length a ≡ length b → a ++ x ≡ b ++ y → (a ≡ b) × (x ≡ y)
-append_same a b x y len e = (
-  sym (take_at a x (length a) refl) ∙ ap (take (length a)) e ∙ take_at b y (length a) (sym len),
-  sym (drop_at a x (length a) refl) ∙ ap (drop (length a)) e ∙ drop_at b y (length a) (sym len),
-)
+use Rattle.q4_value.proofs.Rows.{append_same}
 
 same_number : (z y : ℤ) → FitsSigned w64 z → FitsSigned w64 y → to_be_bytes w64 (cast_unsigned w64 z) ≡ to_be_bytes w64 (cast_unsigned w64 y) → z ≡ y
 same_number z y z_fits y_fits e =
