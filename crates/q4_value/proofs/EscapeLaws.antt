@@ -1,5 +1,5 @@
 -- An escaped text shows which text it is, and holds no byte that cuts lines or fields.
-use Rattle.std.proofs.Common.{◌≡◌, ℕ, cond, eqb, List, [], ◌∷◌, ◌++◌, Option, Some, None, Result, Ok, Err, refl, sym, ap, subst, ◌∙◌, append_assoc, inl, inr, ◌⊎◌, arith}
+use Rattle.std.proofs.Common.{◌≡◌, ℕ, cond, eqb, List, [], ◌∷◌, ◌++◌, Option, Some, None, Result, Ok, Err, refl, sym, ap, subst, ◌∙◌, append_assoc, inl, inr, ◌⊎◌, arith, length}
 use Rattle.std.specs.Prelude.{IfOk, IfErr}
 use Rattle.std.specs.Option.{option_map}
 use Rattle.std.specs.List.{All}
@@ -116,6 +116,22 @@ pub stands : (bytes words : List ℕ) (at : ℕ) → BadAt bytes at → bytes �
 stands bytes words at bad e =
     let f = follows bad.front words bad.rest (sym e ∙ bad.bytes_are) in
     start_stands f.others (subst IsBadStart f.rest_is bad.bad)
+
+-- ---- one place at most
+
+same_front : (front other rest more : List ℕ) → escaped front ++ rest ≡ escaped other ++ more → IsBadStart rest → IsBadStart more → front ≡ other
+same_front [] [] rest more e bad worse = refl
+same_front [] (b ∷ other) rest more e bad worse =
+    absurd (bad_byte (escaped other ++ more) b (subst IsBadStart (e ∙ ap (λ x. x ++ more) (flat_map-cons escaped_byte b other) ∙ append_assoc (escaped_byte b) (escaped other) more) bad))
+same_front (a ∷ front) [] rest more e bad worse =
+    absurd (bad_byte (escaped front ++ rest) a (subst IsBadStart (sym e ∙ ap (λ x. x ++ rest) (flat_map-cons escaped_byte a front) ∙ append_assoc (escaped_byte a) (escaped front) rest) worse))
+same_front (a ∷ front) (b ∷ other) rest more e bad worse =
+    let one = escape_same a b (escaped front ++ rest) (escaped other ++ more) (sym (append_assoc (escaped_byte a) (escaped front) rest) ∙ ap (λ x. x ++ rest) (sym (flat_map-cons escaped_byte a front)) ∙ e ∙ ap (λ x. x ++ more) (flat_map-cons escaped_byte b other) ∙ append_assoc (escaped_byte b) (escaped other) more) in
+    ap (λ x. x ∷ front) one.0 ∙ ap (λ x. b ∷ x) (same_front front other rest more one.1 bad worse)
+
+pub one_place : (bytes : List ℕ) (place other : ℕ) → BadAt bytes place → BadAt bytes other → place ≡ other
+one_place bytes place other f g =
+    f.place ∙ ap (λ x. length (escaped x)) (same_front f.front g.front f.rest g.rest (sym f.bytes_are ∙ g.bytes_are) f.bad g.bad) ∙ sym g.place
 
 pub made_again : (bytes : List ℕ) (r : Result (List ℕ) EscapeFault) → IfOk r (λ words. bytes ≡ escaped words) → IfErr r (UnescapeFails bytes) → (words : List ℕ) → bytes ≡ escaped words → (r ≡ Ok words) ⊎ (r ≡ Err fault.Memory)
 made_again bytes (Ok made) read fails words e = inl (ap Ok (escaped_once made words (sym read ∙ e)))

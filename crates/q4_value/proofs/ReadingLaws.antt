@@ -1,17 +1,20 @@
 -- What is spelled at the front of bytes is read, and nothing else is.
-use Rattle.std.proofs.Common.{◌≡◌, ℕ, ◌+◌, ◌-◌, ◌<◌, ◌⊎◌, List, [], ◌∷◌, ◌++◌, length, get_or, take, drop, Result, Ok, Err, inl, inr, refl, sym, ap, subst, ◌∙◌, append_assoc, arith}
+use Rattle.std.proofs.Common.{◌≡◌, ℕ, ◌+◌, ◌-◌, ◌<◌, ◌≤◌, ◌⊎◌, List, [], ◌∷◌, ◌++◌, length, get_or, take, drop, Result, Ok, Err, inl, inr, refl, sym, ap, subst, ◌∙◌, append_assoc, arith}
 use Rattle.std.specs.Prelude.{IfOk, IfErr}
+use Rattle.std.proofs.lemmas.Bool.{cases_order}
 use Rattle.std.proofs.lemmas.List.{flat_map_more, append-nil, length-append, length-take-le}
 use Rattle.std.proofs.lemmas.List.Concat.{flat_map-cons}
 use Rattle.std.proofs.lemmas.List.Elements.{All-head, All-tail}
 use Rattle.q4_value.specs.declared.column.Column.{Column}
+use Rattle.q4_value.specs.declared.column.Kind.{Kind}
+use Rattle.q4_value.specs.declared.column.Kind.TheVariants as kind
 use Rattle.q4_value.specs.declared.reading.RowBytes.{RowBytes}
 use Rattle.q4_value.specs.declared.reading.RowBytes.TheVariants as fault
 use Rattle.q4_value.specs.declared.row.Value.{Value}
 use Rattle.q4_value.specs.Row.{kind_of, IsValue, IsRowOf}
 use Rattle.q4_value.specs.Spelling.{value_bytes, row_bytes}
-use Rattle.q4_value.specs.Reading.{IsUnreadable, FirstUnreadable, Reads, ValueFails, ReadFails}
-use Rattle.q4_value.proofs.Rows.{parted}
+use Rattle.q4_value.specs.Reading.{told_length, EndsInText, IsUnreadable, FirstUnreadable, Reads, ValueFails, ReadFails}
+use Rattle.q4_value.proofs.Rows.{parted, append_same, place_within}
 use Rattle.q4_value.proofs.Spelled.{value_same, value_readable}
 
 -- a row of at least one column
@@ -121,3 +124,67 @@ rows_once columns one other more rest one_of other_of e =
     let c = continues columns [] one other more rest one_of (subst (λ cs. IsRowOf cs other) (sym (append-nil columns)) other_of) e in
     let none = no_columns c.others c.others_of in
     (sym (append-nil one) ∙ ap (λ vs. one ++ vs) (sym none) ∙ sym c.row_is, c.rest_is ∙ ap (λ vs. row_bytes vs ++ rest) none)
+
+-- ---- one fault at most
+
+ends_not : (bytes : List ℕ) → EndsInText bytes → 4 + told_length bytes ≤ length bytes → ⊥
+ends_not bytes (inl short) all = omega (arith, short, all)
+ends_not bytes (inr short) all = omega (arith, short, all)
+
+same_cause : (kind : Kind) (bytes : List ℕ) (offset column : ℕ) (one other : RowBytes) → IsUnreadable kind bytes offset column one → IsUnreadable kind bytes offset column other → one ≡ other
+same_cause kind.Int bytes offset column (fault.Short a) (fault.Short b) p q = ap fault.Short (p.0 ∙ sym q.0)
+same_cause kind.Int bytes offset column (fault.Short a) (fault.NotText b) p q = absurd q
+same_cause kind.Int bytes offset column (fault.Short a) (fault.Large b) p q = absurd q
+same_cause kind.Int bytes offset column (fault.Short a) fault.Memory p q = absurd q
+same_cause kind.Int bytes offset column (fault.NotText a) other p q = absurd p
+same_cause kind.Int bytes offset column (fault.Large a) other p q = absurd p
+same_cause kind.Int bytes offset column fault.Memory other p q = absurd p
+same_cause kind.Words bytes offset column (fault.Short a) (fault.Short b) p q = ap fault.Short (p.0 ∙ sym q.0)
+same_cause kind.Words bytes offset column (fault.Short a) (fault.NotText b) p q = absurd (ends_not bytes p.2 q.2.0)
+same_cause kind.Words bytes offset column (fault.Short a) (fault.Large b) p q = absurd (p.1 q.1)
+same_cause kind.Words bytes offset column (fault.Short a) fault.Memory p q = absurd q
+same_cause kind.Words bytes offset column (fault.NotText a) (fault.Short b) p q = absurd (ends_not bytes q.2 p.2.0)
+same_cause kind.Words bytes offset column (fault.NotText a) (fault.NotText b) p q = ap fault.NotText (p.0 ∙ sym q.0)
+same_cause kind.Words bytes offset column (fault.NotText a) (fault.Large b) p q = absurd (p.1 q.1)
+same_cause kind.Words bytes offset column (fault.NotText a) fault.Memory p q = absurd q
+same_cause kind.Words bytes offset column (fault.Large a) (fault.Short b) p q = absurd (q.1 p.1)
+same_cause kind.Words bytes offset column (fault.Large a) (fault.NotText b) p q = absurd (q.1 p.1)
+same_cause kind.Words bytes offset column (fault.Large a) (fault.Large b) p q = ap fault.Large (p.0 ∙ sym q.0)
+same_cause kind.Words bytes offset column (fault.Large a) fault.Memory p q = absurd q
+same_cause kind.Words bytes offset column fault.Memory other p q = absurd p
+
+not_earlier : (columns : List Column) (bytes : List ℕ) (one other : RowBytes) → (f : FirstUnreadable columns bytes one) (g : FirstUnreadable columns bytes other) → length f.before < length g.before → ⊥
+not_earlier columns bytes one other f g lt =
+    let in_columns = place_within f.before g.before f.column g.column f.after g.after (sym f.columns_are ∙ g.columns_are) lt in
+    readable g.before bytes g.front g.rest one (record {
+      before = f.before;
+      column = f.column;
+      after = in_columns.0;
+      front = f.front;
+      rest = f.rest;
+      columns_are = in_columns.1;
+      row_of = f.row_of;
+      bytes_are = f.bytes_are;
+      unreadable = f.unreadable;
+    }) g.row_of g.bytes_are
+
+same_place : (columns : List Column) (bytes : List ℕ) (one other : RowBytes) → (f : FirstUnreadable columns bytes one) (g : FirstUnreadable columns bytes other) → length f.before ≡ length g.before → one ≡ other
+same_place columns bytes one other f g len =
+    let in_columns = append_same f.before g.before (f.column ∷ f.after) (g.column ∷ g.after) len (sym f.columns_are ∙ g.columns_are) in
+    let columns_end = in_columns.1 in
+    let column : g.column ≡ f.column = cc in
+    let fronts = rows_once f.before f.front g.front f.rest g.rest f.row_of (subst (λ cs. IsRowOf cs g.front) (sym in_columns.0) g.row_of) (sym f.bytes_are ∙ g.bytes_are) in
+    let here : IsUnreadable f.column.kind f.rest (length (row_bytes f.front)) (length f.before + 1) other =
+    subst (λ n. IsUnreadable f.column.kind f.rest (length (row_bytes f.front)) (n + 1) other) (sym len)
+    (subst (λ vs. IsUnreadable f.column.kind f.rest (length (row_bytes vs)) (length g.before + 1) other) (sym fronts.0)
+    (subst (λ bs. IsUnreadable f.column.kind bs (length (row_bytes g.front)) (length g.before + 1) other) (sym fronts.1)
+    (subst (λ c. IsUnreadable c.kind g.rest (length (row_bytes g.front)) (length g.before + 1) other) column g.unreadable))) in
+    same_cause f.column.kind f.rest (length (row_bytes f.front)) (length f.before + 1) one other f.unreadable here
+
+pub one_unreadable : (columns : List Column) (bytes : List ℕ) (one other : RowBytes) → FirstUnreadable columns bytes one → FirstUnreadable columns bytes other → one ≡ other
+one_unreadable columns bytes one other f g =
+    elim (cases_order (length f.before) (length g.before)) [
+      | inl same ↦ same_place columns bytes one other f g same
+      | inr (inl earlier) ↦ absurd (not_earlier columns bytes one other f g earlier)
+      | inr (inr later) ↦ absurd (not_earlier columns bytes other one g f later)
+    ]

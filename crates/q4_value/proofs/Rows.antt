@@ -24,6 +24,18 @@ append_same a b x y len e = (
   sym (drop_at a x (length a) refl) ∙ ap (drop (length a)) e ∙ drop_at b y (length a) (sym len),
 )
 
+-- of two places in a list the earlier one lies in what is before the later one
+pub place_within : {A : Type 0} (before later : List A) (x y : A) (after rest : List A) → before ++ x ∷ after ≡ later ++ y ∷ rest → length before < length later → (middle : List A) × (later ≡ before ++ x ∷ middle)
+place_within [] [] x y after rest e lt = let none : ⊥ = omega arith in absurd none
+place_within [] (z ∷ later) x y after rest e lt = (later, cc)
+place_within (w ∷ before) [] x y after rest e lt = let none : ⊥ = omega arith in absurd none
+place_within (w ∷ before) (z ∷ later) x y after rest e lt =
+    let tail : before ++ x ∷ after ≡ later ++ y ∷ rest = cc in
+    let below : length before < length later = omega arith in
+    let deeper = place_within before later x y after rest tail below in
+    let head : z ≡ w = cc in
+    (deeper.0, ap (λ v. v ∷ later) head ∙ ap (λ vs. w ∷ vs) deeper.1)
+
 pub row_push : (columns : List Column) (row : List Value) (c : Column) (v : Value) → IsRowOf columns row → kind_of v ≡ c.kind → IsValue v → IsRowOf (columns ++ c ∷ []) (row ++ v ∷ [])
 row_push columns row c v so_far kind value = record {
   kinds = map_push kind_of row v ∙ ap (λ ks. ks ++ kind_of v ∷ []) so_far.kinds ∙ ap (λ k. map (λ c. c.kind) columns ++ k ∷ []) kind ∙ sym (map_push (λ c. c.kind) columns c);

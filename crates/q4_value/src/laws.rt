@@ -16,6 +16,8 @@ ghost use Rattle.q4_value.specs.Escape.{escaped, IsFieldByte, BadAt};
 pub fn fit_laws()
     // A row that fits has no fault.
     ensures apart { (columns : List Header) (row : List Field) (why : Misfit) → Fits columns row → Misfits columns row why → ⊥ }
+    // A row has one fault at most.
+    ensures one_fault { (columns : List Header) (row : List Field) (one other : Misfit) → Misfits columns row one → Misfits columns row other → one ≡ other }
 {}
 
 /// Laws of rows as bytes.
@@ -28,6 +30,9 @@ pub fn row_laws()
     // Where a row stands at the front no value is unreadable.
     ensures apart { (columns : List Header) (row : List Field) (more : List ℕ) (why : ReadFault) → IsRowOf columns row
         → FirstUnreadable columns (row_bytes row ++ more) why → ⊥ }
+    // There is one first unreadable value at most, and one fault of it.
+    ensures one_fault { (columns : List Header) (bytes : List ℕ) (one other : ReadFault) → FirstUnreadable columns bytes one
+        → FirstUnreadable columns bytes other → one ≡ other }
 {}
 
 /// Laws of escaped texts.
@@ -38,4 +43,6 @@ pub fn escape_laws()
     ensures once { (one other : List ℕ) → escaped one ≡ escaped other → one ≡ other }
     // An escaped text has no place that spells nothing.
     ensures apart { (text : List ℕ) (place : ℕ) → BadAt (escaped text) place → ⊥ }
+    // There is one such place at most.
+    ensures one_place { (bytes : List ℕ) (place other : ℕ) → BadAt bytes place → BadAt bytes other → place ≡ other }
 {}
