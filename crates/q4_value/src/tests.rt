@@ -1,16 +1,28 @@
+ghost use Rattle.std.specs.Prelude.{◌≤◌, length};
+ghost use Rattle.q4_value.specs.Row.{Fits};
+
 use super::*;
 use std::alloc::Global;
 use std::process::Abort;
 use std::test::*;
 
-// A value as the tables write it.
+// A value as the tables write it: a number, a text, or so many bytes of the letter x.
 #[derive(Clone, Copy)]
-enum Field<'a> {
+enum Field {
     Number(i64),
-    Text(&'a str),
+    Text(&'static str),
+    Long(usize),
 }
 
-use Field::{Number, Text};
+use Field::{Long, Number, Text};
+
+fn long_text(rt: &impl Abort, alloc: Global, len: usize) -> Words {
+    let mut text = String::new(alloc);
+    for _ in 0..len {
+        assert!(rt; text.push('x').is_ok());
+    }
+    Words::new(alloc, text.as_str()).expect(rt, "memory")
+}
 
 fn row_of(rt: &impl Abort, alloc: Global, fields: &[Field]) -> Row {
     let mut row = Row::new(alloc);
@@ -18,34 +30,42 @@ fn row_of(rt: &impl Abort, alloc: Global, fields: &[Field]) -> Row {
         let value = match *field {
             Number(number) => Value::Int(number),
             Text(text) => Value::Word(Words::new(alloc, text).expect(rt, "memory")),
+            Long(len) => Value::Word(long_text(rt, alloc, len)),
         };
         assert!(rt; row.push(value).is_ok());
     }
     row
 }
 
-fn columns_of(rt: &impl Abort, alloc: Global, kinds: &[Kind]) -> Columns {
+fn columns_of(rt: &impl Abort, alloc: Global, kinds: &[Kind]) -> Columns
+    ensures { length result ≤ 32 }
+{
     let mut columns = Columns::new(alloc);
     for kind in kinds {
         let name = Words::new(alloc, "c").expect(rt, "memory");
         assert!(rt; columns.push(Column { name, kind: *kind }).is_ok());
     }
+    assert!(rt; columns.len() <= 32);
     columns
 }
 
-// So many bytes of the letter x.
-fn long_text(rt: &impl Abort, alloc: Global, len: usize) -> String {
-    let mut text = String::new(alloc);
-    for _ in 0..len {
-        assert!(rt; text.push('x').is_ok());
+// The row, which has to fit.
+fn fitting_row(rt: &impl Abort, alloc: Global, columns: &Columns, fields: &[Field]) -> Row
+    requires { length columns.now ≤ 32 }
+    ensures { Fits columns.now result }
+{
+    let row = row_of(rt, alloc, fields);
+    match fits(columns.as_slice(), &row) {
+        Ok(()) => row,
+        Err(_) => panic!(rt; "the row does not fit"),
     }
-    text
 }
 
 fn same_value(value: &Value, field: &Field) -> bool {
     match (value, field) {
         (Value::Int(number), Number(wanted)) => *number == *wanted,
         (Value::Word(words), Text(wanted)) => words.as_str() == *wanted,
+        (Value::Word(words), Long(len)) => words.as_str().len() == *len,
         _ => false,
     }
 }
@@ -117,8 +137,9 @@ const JOB: [u8; 24] = [
 
 #[test]
 fn a_row_as_bytes(rt: HostRuntime) {
+    let columns = columns_of(&rt, rt.alloc(), &[Kind::Int, Kind::Words]);
     let fields = [Number(7), Text("resize a.png")];
-    let row = row_of(&rt, rt.alloc(), &fields);
+    let row = fitting_row(&rt, rt.alloc(), &columns, &fields);
     let mut wanted = Bytes::new(rt.alloc());
     assert_eq!(rt; wanted.push(b"before"), Ok(()));
     assert_eq!(rt; wanted.push(&JOB), Ok(()));
@@ -128,7 +149,6 @@ fn a_row_as_bytes(rt: HostRuntime) {
     assert_eq!(rt; out.as_slice(), wanted.as_slice());
     assert_eq!(rt; row_size(&row), 24);
 
-    let columns = columns_of(&rt, rt.alloc(), &[Kind::Int, Kind::Words]);
     out.clear();
     assert_eq!(rt; out.push(&JOB), Ok(()));
     assert_eq!(rt; out.push(b"behind"), Ok(()));
@@ -147,11 +167,9 @@ fn extreme_numbers_as_bytes(rt: HostRuntime) {
     ];
     let columns = columns_of(&rt, rt.alloc(), &[Kind::Int]);
     for (number, bytes) in rows {
+        let row = fitting_row(&rt, rt.alloc(), &columns, &[Number(number)]);
         let mut out = Bytes::new(rt.alloc());
-        assert_eq!(rt;
-            put_row(&row_of(&rt, rt.alloc(), &[Number(number)]), &mut out),
-            Ok(())
-        );
+        assert_eq!(rt; put_row(&row, &mut out), Ok(()));
         assert_eq!(rt; out.as_slice(), bytes.as_slice());
         let (read, len) = read_row(rt.alloc(), columns.as_slice(), &bytes).expect(&rt, "a row");
         assert_eq!(rt; len, 8);
@@ -203,6 +221,7 @@ fn bytes_that_are_no_row(rt: HostRuntime) {
         ),
     ];
     for (columns, bytes, wanted) in cases {
+        assert!(rt; columns.len() <= 32);
         let fault = read_row(rt.alloc(), columns.as_slice(), bytes).err();
         assert_eq!(rt; fault, Some(wanted), "of {bytes:?}");
     }
@@ -239,27 +258,21 @@ fn ill_formed_texts(rt: HostRuntime) {
 #[test]
 fn rows_that_fit(rt: HostRuntime) {
     let columns = columns_of(&rt, rt.alloc(), &[Kind::Int, Kind::Words]);
-    let longest = long_text(&rt, rt.alloc(), 65_535);
-    let longest = longest.as_str();
-    let longer = long_text(&rt, rt.alloc(), 65_536);
-    let longer = longer.as_str();
     let cases: [(&[Field], Result<(), RowFault>); 10] = [
         (&[Number(1), Text("a")], Ok(())),
-        (&[Number(1), Text(longest)], Ok(())),
+        (&[Number(1), Long(65_535)], Ok(())),
+        (&[Number(i64::MIN), Text("")], Ok(())),
         (&[], Err(RowFault::Count(2))),
-        (&[Text(longer)], Err(RowFault::Count(2))),
+        (&[Long(65_536)], Err(RowFault::Count(2))),
         (&[Number(1), Text("a"), Number(2)], Err(RowFault::Count(2))),
         (&[Text("1"), Text("a")], Err(RowFault::Kind(1))),
         (&[Number(1), Number(2)], Err(RowFault::Kind(2))),
-        (&[Text(longer), Text(longer)], Err(RowFault::Kind(1))),
-        (&[Number(1), Text(longer)], Err(RowFault::Text(2))),
-        (&[Number(i64::MIN), Text("")], Ok(())),
+        (&[Long(65_536), Long(65_536)], Err(RowFault::Kind(1))),
+        (&[Number(1), Long(65_536)], Err(RowFault::Text(2))),
     ];
     for (fields, wanted) in cases {
-        assert_eq!(rt;
-            fits(columns.as_slice(), &row_of(&rt, rt.alloc(), fields)),
-            wanted
-        );
+        let row = row_of(&rt, rt.alloc(), fields);
+        assert_eq!(rt; fits(columns.as_slice(), &row), wanted);
     }
 }
 
@@ -267,19 +280,12 @@ fn rows_that_fit(rt: HostRuntime) {
 #[test]
 fn the_largest_row(rt: HostRuntime) {
     let columns = columns_of(&rt, rt.alloc(), &[Kind::Words; 16]);
-    let text = long_text(&rt, rt.alloc(), 65_532);
-    let more = long_text(&rt, rt.alloc(), 65_533);
-    let mut fields = [Text(text.as_str()); 16];
-    assert_eq!(rt; row_size(&row_of(&rt, rt.alloc(), &fields)), 1_048_576);
-    assert_eq!(rt;
-        fits(columns.as_slice(), &row_of(&rt, rt.alloc(), &fields)),
-        Ok(())
-    );
-    fields[15] = Text(more.as_str());
-    assert_eq!(rt;
-        fits(columns.as_slice(), &row_of(&rt, rt.alloc(), &fields)),
-        Err(RowFault::Long)
-    );
+    let mut fields = [Long(65_532); 16];
+    let row = fitting_row(&rt, rt.alloc(), &columns, &fields);
+    assert_eq!(rt; row_size(&row), 1_048_576);
+    fields[15] = Long(65_533);
+    let row = row_of(&rt, rt.alloc(), &fields);
+    assert_eq!(rt; fits(columns.as_slice(), &row), Err(RowFault::Long));
 }
 
 #[test]
