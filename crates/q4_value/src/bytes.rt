@@ -39,12 +39,14 @@ impl Bytes {
         }
     }
 
+    /// The bytes.
     pub fn as_slice(&self) -> &[u8]
         ensures { result.now ≡ self.now }
     {
         self.bytes.as_slice()
     }
 
+    // How many bytes there are.
     pub(crate) fn len(&self) -> usize
         ensures { result ≡ length self.now }
     {

@@ -42,13 +42,14 @@ impl Columns {
         }
     }
 
+    /// How many columns there are.
     pub fn len(&self) -> usize
         ensures { result ≡ length self.now }
     {
         self.columns.len()
     }
 
-    /// The column at this place, counted from 0.
+    /// The column at this place, counted from 0, if there are so many.
     pub fn at(&self, place: usize) -> Option<&Column>
         ensures { option_copied result ≡ slice_get self.now place }
     {
@@ -62,6 +63,7 @@ impl Columns {
         self.columns.as_slice()
     }
 
+    /// The same columns, in memory of their own.
     pub fn copy(&self, alloc: Global) -> Result<Columns, NoMemory>
         ensures { IfOk result (λ columns. columns ≡ self.now) }
     {

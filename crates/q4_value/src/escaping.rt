@@ -13,6 +13,7 @@ pub enum EscapeFault {
     /// The offset of the first backslash that begins no escape, or of the first raw TAB, newline or
     /// byte 13.
     BadEscape(u64),
+    /// Memory was wanted and could not be had.
     Memory,
 }
 
@@ -22,6 +23,7 @@ pub fn escape(text: &str, out: &mut Bytes) -> Result<(), NoMemory>
     ensures put { OnOk result (out.new ≡ out.old ++ escaped text.now) }
     ensures kept { OnErr result (out.new ≡ out.old) }
 {
+    out.reserve(text.len())?;
     let before = out.len();
     let put = put_escaped(text.as_bytes(), out);
     if put.is_err() {
@@ -84,6 +86,7 @@ pub fn unescape(alloc: Global, text: &str) -> Result<Words, EscapeFault>
     unescape_first(alloc, text)
 }
 
+// The same, run by run.
 fn unescape_first(alloc: Global, text: &str) -> Result<Words, EscapeFault>
     ensures read { IfOk result (λ words. text.now ≡ escaped words) }
     ensures fault { IfErr result (UnescapeFails text.now) }

@@ -3,10 +3,9 @@ ghost use Rattle.q4_value.specs.Row.{kind_of, IsValue, IsRowOf, value_size as si
 ghost use Rattle.q4_value.specs.Fit.{ValueMisfits, Misfits};
 
 use crate::column::{Column, Kind};
-use crate::row::{Row, Value};
+use crate::row::{Row, TEXT_LIMIT, Value};
 
-const TEXT_LIMIT: usize = 65_535;
-
+// The greatest size of a row in bytes.
 const ROW_LIMIT: u64 = 1_048_576;
 
 /// Why a row does not fit columns, which are counted from 1.

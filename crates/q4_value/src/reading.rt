@@ -1,12 +1,15 @@
 ghost use Rattle.std.specs.Prelude.{◌≡◌, ◌≤◌, ◌<◌, ◌⊎◌, ◌++◌, ℕ, List, length, drop, FitsSigned, IfOk, IfErr, IfSome, IfNone};
 ghost use Rattle.std.specs.Int.{w32, w64, to_be_bytes};
+ghost use Rattle.q4_value.specs.declared.row.Value.{Value as Field};
+ghost use Rattle.q4_value.specs.declared.row.Value.TheVariants.{Int, Word};
+ghost use Rattle.q4_value.specs.Row.{kind_of, IsValue, IsRowOf, row_size as size_of};
+ghost use Rattle.q4_value.specs.Spelling.{value_bytes, row_bytes};
+ghost use Rattle.q4_value.specs.Reading.{told_length, Reads, ValueFails, ReadFails};
 
 use crate::column::{Column, Kind};
-use crate::row::{Row, Value};
+use crate::row::{Row, TEXT_LIMIT, Value};
 use crate::words::Words;
 use std::alloc::Global;
-
-const TEXT_LIMIT: usize = 65_535;
 
 /// Why no row can be read at the front of bytes: the first value that cannot be read. Columns are
 /// counted from 1.
@@ -16,18 +19,15 @@ pub enum RowBytes {
     Short(u64),
     /// The bytes of the text in this column are not UTF-8.
     NotText(u32),
-    /// The text in this column has a length of more than 65,535 bytes.
+    /// The text in this column has a length of more than 65,535 bytes. It goes before `Short` of
+    /// the same value.
     Large(u32),
+    /// Memory was wanted and could not be had.
     Memory,
 }
 
-ghost use Rattle.q4_value.specs.declared.row.Value.{Value as Field};
-ghost use Rattle.q4_value.specs.declared.row.Value.TheVariants.{Int, Word};
-ghost use Rattle.q4_value.specs.Row.{kind_of, IsValue, IsRowOf, row_size as size_of};
-ghost use Rattle.q4_value.specs.Spelling.{value_bytes, row_bytes};
-ghost use Rattle.q4_value.specs.Reading.{told_length, Reads, ValueFails, ReadFails};
-
 /// Reads the row of these columns at the front of the bytes, and tells how many bytes it takes.
+/// Bytes may follow it. The size of the row is not tested.
 pub fn read_row(alloc: Global, columns: &[Column], bytes: &[u8]) -> Result<(Row, usize), RowBytes>
     requires { length columns.now ≤ 32 }
 

@@ -36,12 +36,14 @@ impl Words {
         Words { text }
     }
 
+    /// The text.
     pub fn as_str(&self) -> &str
         ensures { result.now ≡ self.now }
     {
         self.text.as_str()
     }
 
+    /// The same text, in memory of its own.
     pub fn copy(&self, alloc: Global) -> Result<Words, NoMemory>
         ensures { IfOk result (λ words. words ≡ self.now) }
     {
