@@ -1,0 +1,5 @@
+pub mod Row
+pub mod Fit
+pub mod Spelling
+pub mod Reading
+pub mod Escape

@@ -1,4 +1,4 @@
-ghost use Rattle.std.specs.Prelude.{◌≡◌, [], ◌++◌, OnOk, OnErr};
+ghost use Rattle.std.specs.Prelude.{◌≡◌, [], ◌++◌, length, take, OnOk, OnErr};
 
 use crate::NoMemory;
 use std::alloc::Global;
@@ -39,10 +39,35 @@ impl Bytes {
         }
     }
 
+    /// The bytes.
     pub fn as_slice(&self) -> &[u8]
         ensures { result.now ≡ self.now }
     {
         self.bytes.as_slice()
+    }
+
+    // How many bytes there are.
+    pub(crate) fn len(&self) -> usize
+        ensures { result ≡ length self.now }
+    {
+        self.bytes.len()
+    }
+
+    // Makes room for so many more bytes.
+    pub(crate) fn reserve(&mut self, additional: usize) -> Result<(), NoMemory>
+        ensures { self.new ≡ self.old }
+    {
+        match self.bytes.reserve(additional) {
+            Ok(()) => Ok(()),
+            Err(_) => Err(NoMemory),
+        }
+    }
+
+    // Keeps so many bytes, and their room.
+    pub(crate) fn cut(&mut self, len: usize)
+        ensures { self.new ≡ take len self.old }
+    {
+        self.bytes.truncate(len);
     }
 
     /// Lets all bytes go, and keeps their room.

@@ -6,11 +6,13 @@ use std::alloc::Global;
 /// What values a column takes: numbers of 64 bits, or texts.
 #[derive(Clone, Copy, Debug, PartialEq, Eq)]
 pub enum Kind {
+    /// Numbers of 64 bits with a sign.
     Int,
+    /// Texts of at most 65,535 bytes.
     Words,
 }
 
-/// A column of a table.
+/// A column of a table: its name, and what values it takes.
 #[derive(Drop)]
 pub struct Column {
     pub name: Words,
@@ -18,6 +20,7 @@ pub struct Column {
 }
 
 impl Column {
+    /// The same column, in memory of its own.
     pub fn copy(&self, alloc: Global) -> Result<Column, NoMemory>
         ensures { IfOk result (λ column. column ≡ self.now) }
     {

@@ -3,14 +3,31 @@
 
 mod bytes;
 mod column;
+mod columns;
+mod escaping;
+mod fit;
+mod laws;
+mod number;
+mod reading;
 mod row;
 mod words;
+mod writing;
 
 pub use bytes::Bytes;
 pub use column::{Column, Kind};
+pub use columns::Columns;
+pub use escaping::{EscapeFault, escape, unescape};
+pub use fit::{RowFault, fits, row_size};
+pub use laws::{escape_laws, fit_laws, row_laws};
+pub use number::{parse_signed, parse_unsigned};
+pub use reading::{RowBytes, read_row};
 pub use row::{Row, Value};
 pub use words::Words;
+pub use writing::put_row;
 
 /// Memory was wanted and could not be had.
 #[derive(Clone, Copy, Debug, PartialEq, Eq)]
 pub struct NoMemory;
+
+#[cfg(test)]
+mod tests;

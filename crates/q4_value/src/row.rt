@@ -5,14 +5,20 @@ use crate::{NoMemory, Words};
 use std::alloc::Global;
 use std::marker::Model;
 
+// The most bytes of a text in a row.
+pub(crate) const TEXT_LIMIT: usize = 65_535;
+
 /// One value of a row.
 #[derive(Drop)]
 pub enum Value {
+    /// A number of 64 bits with a sign.
     Int(i64),
+    /// A text.
     Word(Words),
 }
 
 impl Value {
+    /// The same value, in memory of its own.
     pub fn copy(&self, alloc: Global) -> Result<Value, NoMemory>
         ensures { IfOk result (λ value. value ≡ self.now) }
     {
@@ -60,19 +66,28 @@ impl Row {
         }
     }
 
+    /// How many values there are.
     pub fn len(&self) -> usize
         ensures { result ≡ length self.now }
     {
         self.values.len()
     }
 
-    /// The value at this place, counted from 0.
+    /// The value at this place, counted from 0, if there are so many.
     pub fn at(&self, place: usize) -> Option<&Value>
         ensures { option_copied result ≡ slice_get self.now place }
     {
         self.values.get(place)
     }
 
+    // The values in order.
+    pub(crate) fn as_slice(&self) -> &[Value]
+        ensures { result.now ≡ self.now }
+    {
+        self.values.as_slice()
+    }
+
+    /// The same row, in memory of its own.
     pub fn copy(&self, alloc: Global) -> Result<Row, NoMemory>
         ensures { IfOk result (λ row. row ≡ self.now) }
     {

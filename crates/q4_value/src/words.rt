@@ -1,4 +1,4 @@
-ghost use Rattle.std.specs.Prelude.{◌≡◌, IfOk};
+ghost use Rattle.std.specs.Prelude.{◌≡◌, string_bytes, IfOk};
 
 use crate::NoMemory;
 use std::alloc::Global;
@@ -29,12 +29,21 @@ impl Words {
         }
     }
 
+    // The text as it is, without a copy.
+    pub(crate) fn from_string(text: String) -> Words
+        ensures { result ≡ string_bytes text }
+    {
+        Words { text }
+    }
+
+    /// The text.
     pub fn as_str(&self) -> &str
         ensures { result.now ≡ self.now }
     {
         self.text.as_str()
     }
 
+    /// The same text, in memory of its own.
     pub fn copy(&self, alloc: Global) -> Result<Words, NoMemory>
         ensures { IfOk result (λ words. words ≡ self.now) }
     {
