@@ -1,0 +1,9 @@
+//! The text protocol: commands from lines, and replies as lines.
+#![tactic(auto)]
+
+mod command;
+mod line_buffer;
+mod reply;
+
+pub use command::{Command, CommandFault, read_command};
+pub use reply::{Code, Outcome, put_reply};
