@@ -1,0 +1,44 @@
+-- What the program does.
+use Rattle.std.specs.Prelude.{◌≡◌, ◌++◌, ◌∷◌, ◌⊎◌, [], ℕ, List, Option, String, codes, string_bytes}
+use Rattle.std.specs.declared.alloc.Global.{Global}
+use Rattle.q4_flow.specs.Flow.{Took, TookFront}
+use Rattle.q4_machine.specs.declared.entry.Entry.{Entry}
+use Rattle.q4_machine.specs.History.{IsLegal}
+use Rattle.q4_machine.specs.Recorded.{opening}
+use Rattle.q4_tool.specs.declared.sessions.SessionEnd.{SessionEnd}
+use Rattle.q4_tool.specs.declared.sessions.SessionEnd.TheVariants as end
+use Rattle.q4_tool.specs.Sessions.{Session}
+
+-- the status of a session's end
+abbrev pub status_of : SessionEnd → ℕ
+status_of end.Quit = 0
+status_of end.Ended = 0
+status_of (end.Partial count) = 6
+status_of end.TooLong = 6
+status_of end.ReadFault = 8
+status_of end.WriteFault = 7
+status_of end.Memory = 9
+
+-- One session ran from the input to the output, over a legal history that begins with the empty built-in table.
+pub record Ran (left left' : Option (List ℕ)) (ended : Type 0) (written written' : Option (List ℕ)) (status : ℕ) : Type 0 where
+  pub history : List Entry
+  pub legal : IsLegal history
+  pub how : SessionEnd
+  pub session : Session 0 (opening ∷ []) history left left' ended written written' how
+  pub status_is : status ≡ status_of how
+
+-- A line was written and nothing was read; after a failed write the status is 7.
+abbrev pub Says : List ℕ → ℕ → Option (List ℕ) → Option (List ℕ) → Option (List ℕ) → Option (List ℕ) → ℕ → Type 0
+Says line status left left' written written' result =
+    (left' ≡ left) × (((result ≡ status) × Took written written' line) ⊎ ((result ≡ 7) × TookFront written written' line))
+
+-- What `run` does: the session, or a line where there was no memory for a desk.
+abbrev pub Runs : Option (List ℕ) → Option (List ℕ) → Type 0 → Option (List ℕ) → Option (List ℕ) → ℕ → Type 0
+Runs left left' ended written written' status =
+    Ran left left' ended written written' status ⊎ Says (codes "out of memory\n") 9 left left' written written' status
+
+-- The words are the one word `run`.
+abbrev pub AreRun : List (String Global) → Type 0
+AreRun [] = ⊥
+AreRun (word ∷ []) = string_bytes word ≡ codes "run"
+AreRun (word ∷ other ∷ rest) = ⊥

@@ -1,0 +1,8 @@
+//! The top calls of the tool: one session over any desk, and all that `q4` does.
+#![tactic(auto)]
+
+mod program;
+mod sessions;
+
+pub use program::tool;
+pub use sessions::{SessionEnd, session};
