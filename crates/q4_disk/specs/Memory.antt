@@ -1,0 +1,26 @@
+-- What contracts see of a disk in memory.
+use Rattle.std.specs.Prelude.{◌≡◌, ◌⊎◌, true, List, ◌∷◌, length}
+use Rattle.q4_disk.specs.declared.history.Step.{Step}
+use Rattle.q4_disk.specs.declared.tally.Tally.{Tally}
+use Rattle.q4_disk.specs.Told.{Told}
+use Rattle.q4_disk.specs.Calls.{bump}
+use Rattle.q4_disk.specs.Replay.{read_after, IsImage, Since}
+
+-- the calls that changed it, the newest first, and the numbers of all
+pub record Memory : Type 0 where
+  pub steps : List Step
+  pub tally : Tally
+
+-- a disk in memory is honest, and its record of calls says the rest
+abbrev pub told_of : Memory → Told
+told_of m = record {
+  honest = true;
+  bytes = read_after m.steps;
+  images = IsImage m.steps;
+  moment = length m.steps;
+  since = Since m.steps;
+  faults = m.tally.faults;
+  calls = m.tally.calls;
+  writes = m.tally.writes;
+  syncs = m.tally.syncs;
+}

@@ -1,0 +1,142 @@
+ghost use Rattle.std.specs.Prelude.{◌≡◌, ◌-◌, ◌≤◌, min, [], ◌++◌, length, take, drop, IsTrue, IsOk, IfOk};
+ghost use Rattle.q4_disk.specs.Images.{on};
+ghost use Rattle.q4_disk.specs.Calls.{IsCall, Sized, Read};
+ghost use Rattle.q4_disk.specs.Memory.{told_of};
+ghost use Rattle.q4_disk.specs.Laws.{counts, only, reads_image};
+
+use crate::history::History;
+use crate::tally::Tally;
+use crate::{Disk, DiskFailed, Side};
+use q4_value::NoMemory;
+use std::alloc::Global;
+use std::marker::Model;
+
+/// A disk in memory, which keeps a record of its calls.
+#[derive(Drop)]
+pub struct MemoryDisk {
+    alloc: Global,
+    history: History,
+    tally: Tally,
+}
+
+impl Model for MemoryDisk {
+    ghost use Rattle.q4_disk.specs.Memory.{Memory};
+
+    ghost Value = { Memory };
+
+    ghost view = { λ d. record { steps = d.history; tally = d.tally } };
+}
+
+impl MemoryDisk {
+    /// An empty disk. It takes no memory.
+    pub fn new(alloc: Global) -> MemoryDisk
+        ensures { result ≡ record { steps = []; tally = record { faults = 0; calls = 0; writes = 0; syncs = 0 } } }
+    {
+        MemoryDisk {
+            alloc,
+            history: History::new(alloc),
+            tally: Tally::new(),
+        }
+    }
+
+    /// The bytes of a side as they are read.
+    pub fn bytes(&self, side: Side) -> &[u8]
+        ensures { result.now ≡ on side (told_of self.now).bytes }
+    {
+        self.history.bytes(side)
+    }
+
+    /// The number of device calls, failed ones among them.
+    pub fn calls(&self) -> u64
+        ensures { result ≡ (told_of self.now).calls }
+    {
+        self.tally.calls
+    }
+
+    /// The number of writes, failed ones among them.
+    pub fn writes(&self) -> u64
+        ensures { result ≡ (told_of self.now).writes }
+    {
+        self.tally.writes
+    }
+
+    /// The number of syncs, failed ones among them.
+    pub fn syncs(&self) -> u64
+        ensures { result ≡ (told_of self.now).syncs }
+    {
+        self.tally.syncs
+    }
+}
+
+impl Disk for MemoryDisk {
+    ghost told = { told_of };
+
+    ghost counts_now = { λ d h t c le now. counts d.steps t c le now };
+
+    ghost only_now = { λ d h c left. only d.steps c left };
+
+    ghost reads_image = { λ d h. reads_image d.steps };
+
+    /// It never fails.
+    fn size(&mut self, side: Side) -> Result<u64, DiskFailed>
+        ensures call { IsCall result (told_of self.old) (told_of self.new) }
+        ensures size { IsTrue (told_of self.old).honest → Sized side result (told_of self.old) (told_of self.new) }
+        ensures ok { IsOk result }
+    {
+        self.tally.count_call();
+        Ok(self.history.bytes(side).len() as u64)
+    }
+
+    /// It never fails.
+    fn read(&mut self, side: Side, at: u64, into: &mut [u8]) -> Result<usize, DiskFailed>
+        ensures call { IsCall result (told_of self.old) (told_of self.new) }
+        ensures room { IfOk result (λ n. n ≤ length into.old) }
+        ensures read { IsTrue (told_of self.old).honest → Read side at into.old into.new result (told_of self.old) (told_of self.new) }
+        ensures ok { IsOk result }
+    {
+        self.tally.count_call();
+        Ok(read_from(self.history.bytes(side), at, into))
+    }
+
+    fn write(&mut self, side: Side, at: u64, bytes: &[u8]) -> Result<(), DiskFailed> {
+        self.tally.count_write();
+        match self.history.write(self.alloc, side, at as usize, bytes) {
+            Ok(()) => Ok(()),
+            Err(NoMemory) => Err(self.tally.count_fault()),
+        }
+    }
+
+    fn cut(&mut self, side: Side, length: u64) -> Result<(), DiskFailed> {
+        self.tally.count_call();
+        match self.history.cut(side, length as usize) {
+            Ok(()) => Ok(()),
+            Err(NoMemory) => Err(self.tally.count_fault()),
+        }
+    }
+
+    fn sync(&mut self, side: Side) -> Result<(), DiskFailed> {
+        self.tally.count_sync();
+        match self.history.sync(side) {
+            Ok(()) => Ok(()),
+            Err(NoMemory) => Err(self.tally.count_fault()),
+        }
+    }
+
+    fn faults(&self) -> u64 {
+        self.tally.faults
+    }
+}
+
+// Copies what stands after an offset, as far as the slice goes, and tells how much it is.
+fn read_from(bytes: &[u8], at: u64, into: &mut [u8]) -> usize
+    ensures count { result ≡ min (length into.old) (length bytes.now - at) }
+    ensures into { into.new ≡ take result (drop at bytes.now) ++ drop result into.old }
+{
+    if at >= bytes.len() as u64 {
+        return 0;
+    }
+    let rest = &bytes[at as usize..];
+    let count = into.len().min(rest.len());
+    into[..count].copy_from_slice(&rest[..count]);
+    count
+}
