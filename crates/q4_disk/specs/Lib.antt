@@ -5,4 +5,8 @@ pub mod Calls
 pub mod Replay
 pub mod Memory
 pub mod Laws
+pub mod Failing
+pub mod Stopping
+pub mod Picked
 pub mod Untold
+pub mod Makers

@@ -27,13 +27,17 @@ Leaves (Write side at bytes done) seen old new = Torn (place seen at) (length by
 Leaves (CutTo side to done) seen old new = Cut to old new
 Leaves (Sync side) seen old new = new ≡ seen
 
+-- both sides as they are read after a call
+abbrev pub after : Step → Sides → Sides
+after step seen = put (side_of step) (reads step (on (side_of step) seen)) seen
+
 abbrev pub no_bytes : Sides
 no_bytes = both [] []
 
 -- what is read after these calls
 abbrev pub read_after : List Step → Sides
 read_after [] = no_bytes
-read_after (step ∷ earlier) = put (side_of step) (reads step (on (side_of step) (read_after earlier))) (read_after earlier)
+read_after (step ∷ earlier) = after step (read_after earlier)
 
 -- what a crash after these calls may leave
 abbrev pub IsImage : List Step → Sides → Type 0

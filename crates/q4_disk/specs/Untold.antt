@@ -4,11 +4,15 @@ use Rattle.q4_disk.specs.declared.tally.Tally.{Tally}
 use Rattle.q4_disk.specs.Told.{Sides, Told}
 use Rattle.q4_disk.specs.Replay.{no_bytes}
 
+-- nothing is told of what a crash may leave
+abbrev pub no_image : Sides → Type 0
+no_image c = ⊥
+
 abbrev pub untold : Tally → Told
 untold tally = record {
   honest = false;
   bytes = no_bytes;
-  images = λ c. ⊥;
+  images = no_image;
   moment = 0;
   since = λ t c. ⊥;
   faults = tally.faults;

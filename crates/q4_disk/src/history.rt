@@ -1,4 +1,4 @@
-ghost use Rattle.std.specs.Prelude.{◌≡◌, ℕ, ◌≤◌, List, [], ◌∷◌, ◌++◌, true, false, length, reverse, take, OnOk, OnErr};
+ghost use Rattle.std.specs.Prelude.{◌≡◌, ℕ, ◌<◌, ◌≤◌, List, [], ◌∷◌, ◌++◌, true, false, length, reverse, take, vec_len, vec_capacity, OnOk, OnErr};
 ghost use Rattle.q4_disk.specs.Images.{on, size, written};
 ghost use Rattle.q4_disk.specs.Replay.{reads, read_after};
 
@@ -46,6 +46,20 @@ impl Model for History {
     ghost view = { λ h. reverse h.steps.items };
 
     ghost invariant = { λ h. read_after (reverse h.steps.items) ≡ both h.a.items h.b.items };
+}
+
+impl Step {
+    ghost use Rattle.q4_disk.specs.Replay.{side_of};
+
+    pub fn side(&self) -> Side
+        ensures { result ≡ side_of self.now }
+    {
+        match self {
+            Step::Write { side, .. } => *side,
+            Step::CutTo { side, .. } => *side,
+            Step::Sync { side } => *side,
+        }
+    }
 }
 
 impl History {
@@ -193,17 +207,35 @@ fn write_side(
     ensures same_file { OnErr result (file.new.items ≡ file.old.items) }
     ensures same_steps { OnErr result (steps.new.items ≡ steps.old.items) }
 {
-    let end = file.len();
-    let over = bytes.len().min(end - at);
-    if file.extend_from_slice(&bytes[over..]).is_err() {
+    if steps.reserve(1).is_err() {
         return Err(NoMemory);
     }
-    if keep(steps, step).is_err() {
-        file.truncate(end);
+    write_bytes(file, at, bytes)?;
+    push_reserved(steps, step);
+    Ok(())
+}
+
+/// Writes over what is there, and past the end. A refusal changes nothing.
+pub(crate) fn write_bytes(file: &mut Vec<u8>, at: usize, bytes: &[u8]) -> Result<(), NoMemory>
+    requires { at ≤ length file.old.items }
+    ensures written { OnOk result (file.new.items ≡ written file.old.items at bytes.now) }
+    ensures same { OnErr result (file.new.items ≡ file.old.items) }
+{
+    let over = bytes.len().min(file.len() - at);
+    if file.extend_from_slice(&bytes[over..]).is_err() {
         return Err(NoMemory);
     }
     file[at..at + over].copy_from_slice(&bytes[..over]);
     Ok(())
+}
+
+fn push_reserved(steps: &mut Vec<Step>, step: Step)
+    requires { vec_len steps.old < vec_capacity steps.old }
+    ensures { steps.new.items ≡ steps.old.items ++ step ∷ [] }
+{
+    let Ok(()) = steps.push(step) else {
+        unreachable!()
+    };
 }
 
 // Cuts one side and keeps the step, or changes nothing.

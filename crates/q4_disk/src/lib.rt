@@ -2,9 +2,21 @@
 #![tactic(auto)]
 
 mod disk;
+mod failing;
+mod file;
+mod file_maker;
 mod history;
+mod maker;
 mod memory;
+mod numbers;
+mod stop;
 mod tally;
 
 pub use disk::{Disk, DiskFailed, Side};
+pub use failing::FailingDisk;
+pub use file::FileDisk;
+pub use file_maker::FileMaker;
+pub use maker::{DiskMaker, FailingMaker, MakeFault, MemoryMaker};
 pub use memory::MemoryDisk;
+pub use numbers::Numbers;
+pub use stop::{Pick, StopDisk};

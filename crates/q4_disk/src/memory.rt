@@ -1,10 +1,10 @@
-ghost use Rattle.std.specs.Prelude.{◌≡◌, ◌-◌, ◌≤◌, min, [], ◌++◌, length, take, drop, IsTrue, IsOk, IfOk};
-ghost use Rattle.q4_disk.specs.Images.{on};
-ghost use Rattle.q4_disk.specs.Calls.{IsCall, Sized, Read};
+ghost use Rattle.std.specs.Prelude.{◌≡◌, ◌-◌, ◌≤◌, ◌⊎◌, min, false, [], ◌∷◌, ◌++◌, length, take, drop, reverse, IsTrue, IsOk, IsErr, IfOk};
+ghost use Rattle.q4_disk.specs.Images.{on, size};
+ghost use Rattle.q4_disk.specs.Calls.{IsCall, IsWrite, IsSync, Sized, Read, Wrote, DidCut};
 ghost use Rattle.q4_disk.specs.Memory.{told_of};
 ghost use Rattle.q4_disk.specs.Laws.{counts, only, reads_image};
 
-use crate::history::History;
+use crate::history::{History, Step};
 use crate::tally::Tally;
 use crate::{Disk, DiskFailed, Side};
 use q4_value::NoMemory;
@@ -65,6 +65,81 @@ impl MemoryDisk {
         ensures { result ≡ (told_of self.now).syncs }
     {
         self.tally.syncs
+    }
+}
+
+// Calls that fail.
+impl MemoryDisk {
+    /// The calls that changed it, the oldest first.
+    pub(crate) fn steps(&self) -> &[Step]
+        ensures { reverse result.now ≡ self.now.steps }
+    {
+        self.history.steps()
+    }
+
+    /// A call of `size`, `read` or `cut` that fails and does nothing.
+    pub(crate) fn refuse_call<T>(&mut self) -> Result<T, DiskFailed>
+        ensures failed { IsErr result }
+        ensures call { IsCall result (told_of self.old) (told_of self.new) }
+        ensures steps { self.new.steps ≡ self.old.steps }
+    {
+        self.tally.count_call();
+        Err(self.tally.count_fault())
+    }
+
+    /// A write that fails and does nothing.
+    pub(crate) fn refuse_write(&mut self) -> Result<(), DiskFailed>
+        ensures failed { IsErr result }
+        ensures call { IsWrite result (told_of self.old) (told_of self.new) }
+        ensures steps { self.new.steps ≡ self.old.steps }
+    {
+        self.tally.count_write();
+        Err(self.tally.count_fault())
+    }
+
+    /// A sync that fails and does nothing.
+    pub(crate) fn refuse_sync(&mut self) -> Result<(), DiskFailed>
+        ensures failed { IsErr result }
+        ensures call { IsSync result (told_of self.old) (told_of self.new) }
+        ensures steps { self.new.steps ≡ self.old.steps }
+    {
+        self.tally.count_sync();
+        Err(self.tally.count_fault())
+    }
+
+    /// A write that fails in the middle: what is read stays, and a crash may leave any of it. Where memory is wanted
+    /// for the record it leaves nothing.
+    pub(crate) fn break_write(
+        &mut self,
+        side: Side,
+        at: u64,
+        bytes: &[u8],
+    ) -> Result<(), DiskFailed>
+        requires { at ≤ size side (told_of self.old).bytes }
+        ensures failed { IsErr result }
+        ensures call { IsWrite result (told_of self.old) (told_of self.new) }
+        ensures write { Wrote side at bytes.now result (told_of self.old) (told_of self.new) }
+        ensures steps { (self.new.steps ≡ Step.Write side at bytes.now false ∷ self.old.steps) ⊎ (self.new.steps ≡ self.old.steps) }
+    {
+        self.tally.count_write();
+        match self.history.begin_write(self.alloc, side, at as usize, bytes) {
+            Ok(()) => Err(self.tally.count_fault()),
+            Err(NoMemory) => Err(self.tally.count_fault()),
+        }
+    }
+
+    /// A cut that fails in the middle, likewise.
+    pub(crate) fn break_cut(&mut self, side: Side, length: u64) -> Result<(), DiskFailed>
+        ensures failed { IsErr result }
+        ensures call { IsCall result (told_of self.old) (told_of self.new) }
+        ensures cut { DidCut side length result (told_of self.old) (told_of self.new) }
+        ensures steps { (self.new.steps ≡ Step.CutTo side length false ∷ self.old.steps) ⊎ (self.new.steps ≡ self.old.steps) }
+    {
+        self.tally.count_call();
+        match self.history.begin_cut(side, length as usize) {
+            Ok(()) => Err(self.tally.count_fault()),
+            Err(NoMemory) => Err(self.tally.count_fault()),
+        }
     }
 }
 

@@ -1,4 +1,4 @@
-ghost use Rattle.std.specs.Prelude.{◌≡◌};
+ghost use Rattle.std.specs.Prelude.{◌≡◌, ◌≤◌};
 ghost use Rattle.q4_disk.specs.Calls.{bump};
 
 use crate::DiskFailed;
@@ -47,7 +47,8 @@ impl Tally {
 
     /// The call that was counted last has failed.
     pub fn count_fault(&mut self) -> DiskFailed
-        ensures { self.new ≡ record self.old { faults = bump self.old.faults } }
+        ensures counted { self.new ≡ record self.old { faults = bump self.old.faults } }
+        ensures later { self.old.faults ≤ self.new.faults }
     {
         self.faults = self.faults.saturating_add(1);
         DiskFailed

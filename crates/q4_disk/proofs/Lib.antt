@@ -1,0 +1,4 @@
+pub mod Mixed
+pub mod Replayed
+pub mod Counted
+pub mod Picks
