@@ -1,10 +1,11 @@
-ghost use Rattle.std.specs.Prelude.{◌≤◌, length, IfOk};
+ghost use Rattle.std.specs.Prelude.{◌≡◌, ◌≤◌, length, IfOk};
 ghost use Rattle.q4_disk.specs.Untold.{untold, untold_counts, untold_only, untold_reads};
 
 use crate::tally::Tally;
 use crate::{Disk, DiskFailed, Side};
 use std::fs::File;
 use std::io;
+use std::marker::Model;
 use std::os::unix::fs::FileExt;
 
 // Where no byte of a file can stand.
@@ -18,8 +19,18 @@ pub struct FileDisk {
     tally: Tally,
 }
 
+impl Model for FileDisk {
+    ghost use Rattle.q4_disk.specs.declared.tally.Tally.{Tally as Counts};
+
+    ghost Value = { Counts };
+
+    ghost view = { λ d. d.tally };
+}
+
 impl FileDisk {
-    pub(crate) fn new(a: File, b: File) -> FileDisk {
+    pub(crate) fn new(a: File, b: File) -> FileDisk
+        ensures { result ≡ record { faults = 0; calls = 0; writes = 0; syncs = 0 } }
+    {
         FileDisk {
             a,
             b,
@@ -36,13 +47,13 @@ impl FileDisk {
 }
 
 impl Disk for FileDisk {
-    ghost told = { λ d. untold d.tally };
+    ghost told = { untold };
 
-    ghost counts_now = { λ d. untold_counts d.tally };
+    ghost counts_now = { untold_counts };
 
-    ghost only_now = { λ d. untold_only d.tally };
+    ghost only_now = { untold_only };
 
-    ghost reads_image = { λ d. untold_reads d.tally };
+    ghost reads_image = { untold_reads };
 
     fn size(&mut self, side: Side) -> Result<u64, DiskFailed> {
         self.tally.count_call();

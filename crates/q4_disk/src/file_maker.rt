@@ -1,10 +1,11 @@
-ghost use Rattle.std.specs.Prelude.{◌≡◌, ◌≤◌, false, OnErr};
+ghost use Rattle.std.specs.Prelude.{◌≡◌, false};
 ghost use Rattle.q4_disk.specs.Untold.{no_image};
 
 use crate::{DiskMaker, FileDisk, MakeFault};
 use std::alloc::Global;
 use std::fs::{File, Files, OpenOptions};
 use std::io;
+use std::marker::Model;
 use std::path::Path;
 
 /// Opens disks of real files: `NAME.a` and `NAME.b`, made empty where they aren't there.
@@ -16,25 +17,31 @@ pub struct FileMaker<R: Files<File = File>> {
     faults: u64,
 }
 
-impl<R: Files<File = File>> FileMaker<R> {
-    pub fn new(files: R) -> FileMaker<R> {
-        FileMaker { files, faults: 0 }
-    }
+impl<R: Files<File = File>> Model for FileMaker<R> {
+    ghost use Rattle.std.specs.Prelude.{ℕ};
 
-    fn fault(&mut self) -> MakeFault {
-        self.faults = self.faults.saturating_add(1);
-        MakeFault::Failed
+    ghost Value = { ℕ };
+
+    // its count of faults
+    ghost view = { λ m. m.faults };
+}
+
+impl<R: Files<File = File>> FileMaker<R> {
+    pub fn new(files: R) -> FileMaker<R>
+        ensures { result ≡ 0 }
+    {
+        FileMaker { files, faults: 0 }
     }
 }
 
-impl<R: Files<File = File> + Drop> DiskMaker for FileMaker<R> {
+impl<R: Files<File = File>> DiskMaker for FileMaker<R> {
     type Disk = FileDisk;
 
     ghost tells = { λ m n. false };
 
     ghost first = { λ m n c. no_image c };
 
-    ghost faults = { λ m. m.faults };
+    ghost faults = { λ m. m };
 
     /// `Failed` where a file or its folder cannot be opened, or another user has a lock.
     fn make(&mut self, alloc: Global, name: &str) -> Result<FileDisk, MakeFault> {

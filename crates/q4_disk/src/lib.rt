@@ -11,6 +11,8 @@ mod memory;
 mod numbers;
 mod stop;
 mod tally;
+#[cfg(test)]
+mod tests;
 
 pub use disk::{Disk, DiskFailed, Side};
 pub use failing::FailingDisk;

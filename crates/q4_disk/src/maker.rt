@@ -1,10 +1,13 @@
-ghost use Rattle.std.specs.Prelude.{◌≡◌, ◌≢◌, ℕ, Bool, true, List, IsTrue, IfOk};
+ghost use Rattle.std.specs.Prelude.{◌≡◌, ◌≢◌, ℕ, Bool, true, List, IsTrue, IsOk, IfOk, IfErr};
 ghost use Rattle.q4_disk.specs.Told.{Sides};
+ghost use Rattle.q4_disk.specs.Memory.{told_of, new_memory};
+ghost use Rattle.q4_disk.specs.Failing.{failing_told};
 ghost use Rattle.q4_disk.specs.Makers.{IsMadeAs, StaysTold, CountsMake, IsEmpty};
 
 use crate::{Disk, FailingDisk, MemoryDisk, Numbers};
 use q4_value::NoMemory;
 use std::alloc::Global;
+use std::marker::Model;
 
 /// Why a disk was not made.
 #[derive(Clone, Copy, Debug, PartialEq, Eq)]
@@ -44,11 +47,17 @@ impl DiskMaker for MemoryMaker {
 
     ghost tells = { λ m n. true };
 
-    ghost first = { λ m n c. IsEmpty c };
+    ghost first = { λ m n. IsEmpty };
 
     ghost faults = { λ m. 0 };
 
-    fn make(&mut self, alloc: Global, _name: &str) -> Result<MemoryDisk, MakeFault> {
+    fn make(&mut self, alloc: Global, name: &str) -> Result<MemoryDisk, MakeFault>
+        ensures made { IfOk result (λ disk. IsTrue true → IsMadeAs (told_of disk) IsEmpty) }
+        ensures others { (n : List ℕ) → n ≢ name.now → StaysTold true true IsEmpty IsEmpty }
+        ensures faults { CountsMake result 0 0 }
+        ensures ok { IsOk result }
+        ensures new { IfOk result (λ disk. disk ≡ new_memory) }
+    {
         Ok(MemoryDisk::new(alloc))
     }
 }
@@ -59,8 +68,19 @@ pub struct FailingMaker {
     failing: Numbers,
 }
 
+impl Model for FailingMaker {
+    ghost use Rattle.std.specs.Prelude.{List, ℕ};
+
+    ghost Value = { List ℕ };
+
+    // the numbers of the calls that fail
+    ghost view = { λ m. m.failing };
+}
+
 impl FailingMaker {
-    pub fn new(failing: Numbers) -> FailingMaker {
+    pub fn new(failing: Numbers) -> FailingMaker
+        ensures { result ≡ failing }
+    {
         FailingMaker { failing }
     }
 }
@@ -70,12 +90,19 @@ impl DiskMaker for FailingMaker {
 
     ghost tells = { λ m n. true };
 
-    ghost first = { λ m n c. IsEmpty c };
+    ghost first = { λ m n. IsEmpty };
 
     ghost faults = { λ m. 0 };
 
     /// It answers only want of memory, for the copy of the numbers.
-    fn make(&mut self, alloc: Global, _name: &str) -> Result<FailingDisk, MakeFault> {
+    fn make(&mut self, alloc: Global, name: &str) -> Result<FailingDisk, MakeFault>
+        ensures made { IfOk result (λ disk. IsTrue true → IsMadeAs (failing_told disk) IsEmpty) }
+        ensures others { (n : List ℕ) → n ≢ name.now → StaysTold true true IsEmpty IsEmpty }
+        ensures faults { CountsMake result 0 0 }
+        ensures memory { IfErr result (λ fault. fault ≡ MakeFault.Memory) }
+        ensures new { IfOk result (λ disk. disk ≡ record { memory = new_memory; numbers = self.old; made = 0 }) }
+        ensures same { self.new ≡ self.old }
+    {
         match self.failing.copy(alloc) {
             Ok(failing) => Ok(FailingDisk::new(MemoryDisk::new(alloc), failing)),
             Err(NoMemory) => Err(MakeFault::Memory),

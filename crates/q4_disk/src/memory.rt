@@ -1,7 +1,7 @@
 ghost use Rattle.std.specs.Prelude.{◌≡◌, ◌-◌, ◌≤◌, ◌⊎◌, min, false, [], ◌∷◌, ◌++◌, length, take, drop, reverse, IsTrue, IsOk, IsErr, IfOk};
 ghost use Rattle.q4_disk.specs.Images.{on, size};
 ghost use Rattle.q4_disk.specs.Calls.{IsCall, IsWrite, IsSync, Sized, Read, Wrote, DidCut};
-ghost use Rattle.q4_disk.specs.Memory.{told_of};
+ghost use Rattle.q4_disk.specs.Memory.{told_of, new_memory};
 ghost use Rattle.q4_disk.specs.Laws.{counts, only, reads_image};
 
 use crate::history::{History, Step};
@@ -30,7 +30,7 @@ impl Model for MemoryDisk {
 impl MemoryDisk {
     /// An empty disk. It takes no memory.
     pub fn new(alloc: Global) -> MemoryDisk
-        ensures { result ≡ record { steps = []; tally = record { faults = 0; calls = 0; writes = 0; syncs = 0 } } }
+        ensures { result ≡ new_memory }
     {
         MemoryDisk {
             alloc,
