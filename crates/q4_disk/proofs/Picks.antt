@@ -67,11 +67,14 @@ picked_image pick [] = refl
 picked_image pick (step ∷ earlier) =
     let side = side_of step in
     let seen = on side (read_after earlier) in
-    let old = on side (picked pick earlier) in
-    (picked pick earlier, picked_image pick earlier, record {
-      here = subst (λ (l : List ℕ). Leaves step seen old l) (sym (on_put side (picks pick step seen old) (picked pick earlier))) (leaves_pick pick step seen old);
-      there = other_put side (picks pick step seen old) (picked pick earlier);
-    })
+    let old = on side (picked pick earlier) in (
+      picked pick earlier,
+      picked_image pick earlier,
+      record {
+        here = subst (λ (l : List ℕ). Leaves step seen old l) (sym (on_put side (picks pick step seen old) (picked pick earlier))) (leaves_pick pick step seen old);
+        there = other_put side (picks pick step seen old) (picked pick earlier);
+      },
+    )
 
 -- and so is one side of one pick with the other side of another
 pub pair_image : (side : Side) (pick there : Pick) (steps : List Step) → IsImage steps (put side (on side (picked pick steps)) (picked there steps))

@@ -38,5 +38,5 @@ torn_byte x y c g n is torn =
     record {
       byte = get_or c n 0;
       is = sym (take-append-drop n c) ∙ ap (λ (l : List ℕ). l ++ drop n c) (kept_front (x ++ g ∷ y) c n 1 (omega (arith, is, length-append x (g ∷ y))) torn ∙ take_at x (g ∷ y) n is)
-        ∙ ap (λ (l : List ℕ). x ++ l) (drop_more c n 0 long ∙ ap (λ (l : List ℕ). get_or c n 0 ∷ l) (torn.after ∙ back));
+          ∙ ap (λ (l : List ℕ). x ++ l) (drop_more c n 0 long ∙ ap (λ (l : List ℕ). get_or c n 0 ∷ l) (torn.after ∙ back));
     }

@@ -79,10 +79,10 @@ wrote_at : {T E : Type 0} (result : Result T E) (steps : List Step) (t0 t1 : Tal
 wrote_at result steps t0 t1 side at bytes done le is_done is_failed =
     let here = placed (on side (read_after steps)) at le in
     stepped result steps (Write side at bytes done) t0 t1 (Torn at (length bytes)) (written (on side (read_after steps)) at bytes)
-      (λ old new torn. subst (λ (k : ℕ). Torn k (length bytes) old new) here torn)
-      (λ old new torn. subst (λ (k : ℕ). Torn k (length bytes) old new) (sym here) torn)
-      (λ old. torn_none at (length bytes) old)
-      is_done is_failed
+    (λ old new torn. subst (λ (k : ℕ). Torn k (length bytes) old new) here torn)
+    (λ old new torn. subst (λ (k : ℕ). Torn k (length bytes) old new) (sym here) torn)
+    (λ old. torn_none at (length bytes) old)
+    is_done is_failed
 
 -- a write, a cut or a sync that failed and left no step
 unmoved : {T E : Type 0} (result : Result T E) (steps now : List Step) (t0 t1 : Tally) (side : Side) (R : List ℕ → List ℕ → Type 0) (after : List ℕ) → IsErr result → now ≡ steps → ((old : List ℕ) → R old old)
@@ -120,28 +120,28 @@ pub wrote : (steps now : List Step) (t0 t1 : Tally) (side : Side) (at : ℕ) (by
 wrote steps now t0 t1 side at bytes le is =
     let seen = on side (read_after steps) in
     subst (λ (l : List Step). Wrote {T = Unit {0}} {E = DiskFailed} side at bytes (Ok tt) (told_at steps t0) (told_at l t1)) (sym is)
-      (wrote_at (Ok tt) steps t0 t1 side at bytes true le (ap (λ (k : ℕ). written seen k bytes) (placed seen at le)) tt)
+    (wrote_at (Ok tt) steps t0 t1 side at bytes true le (ap (λ (k : ℕ). written seen k bytes) (placed seen at le)) tt)
 
 -- a write that was cut off
 pub began_write : (steps now : List Step) (t0 t1 : Tally) (failed : DiskFailed) (side : Side) (at : ℕ) (bytes : List ℕ) → at ≤ length (on side (read_after steps)) → now ≡ Write side at bytes false ∷ steps
     → Wrote {T = Unit {0}} {E = DiskFailed} side at bytes (Err failed) (told_at steps t0) (told_at now t1)
 began_write steps now t0 t1 failed side at bytes le is =
     subst (λ (l : List Step). Wrote {T = Unit {0}} {E = DiskFailed} side at bytes (Err failed) (told_at steps t0) (told_at l t1)) (sym is)
-      (wrote_at (Err failed) steps t0 t1 side at bytes false le tt refl)
+    (wrote_at (Err failed) steps t0 t1 side at bytes false le tt refl)
 
 -- a cut that was done
 pub did_cut : (steps now : List Step) (t0 t1 : Tally) (side : Side) (to : ℕ) → now ≡ CutTo side to true ∷ steps
     → DidCut {T = Unit {0}} {E = DiskFailed} side to (Ok tt) (told_at steps t0) (told_at now t1)
 did_cut steps now t0 t1 side to is =
     subst (λ (l : List Step). DidCut {T = Unit {0}} {E = DiskFailed} side to (Ok tt) (told_at steps t0) (told_at l t1)) (sym is)
-      (stepped (Ok tt) steps (CutTo side to true) t0 t1 (Cut to) (take to (on side (read_after steps))) (λ old new is_cut. is_cut) (λ old new is_cut. is_cut) (cut_none to) refl tt)
+    (stepped (Ok tt) steps (CutTo side to true) t0 t1 (Cut to) (take to (on side (read_after steps))) (λ old new is_cut. is_cut) (λ old new is_cut. is_cut) (cut_none to) refl tt)
 
 -- a cut that was cut off
 pub began_cut : (steps now : List Step) (t0 t1 : Tally) (failed : DiskFailed) (side : Side) (to : ℕ) → now ≡ CutTo side to false ∷ steps
     → DidCut {T = Unit {0}} {E = DiskFailed} side to (Err failed) (told_at steps t0) (told_at now t1)
 began_cut steps now t0 t1 failed side to is =
     subst (λ (l : List Step). DidCut {T = Unit {0}} {E = DiskFailed} side to (Err failed) (told_at steps t0) (told_at l t1)) (sym is)
-      (stepped (Err failed) steps (CutTo side to false) t0 t1 (Cut to) (take to (on side (read_after steps))) (λ old new is_cut. is_cut) (λ old new is_cut. is_cut) (cut_none to) tt refl)
+    (stepped (Err failed) steps (CutTo side to false) t0 t1 (Cut to) (take to (on side (read_after steps))) (λ old new is_cut. is_cut) (λ old new is_cut. is_cut) (cut_none to) tt refl)
 
 -- a sync that was done
 pub synced : (steps now : List Step) (t0 t1 : Tally) (side : Side) → now ≡ Sync side ∷ steps

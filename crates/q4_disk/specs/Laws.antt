@@ -71,8 +71,11 @@ pub reads_image : (steps : List Step) → IsImage steps (read_after steps)
 reads_image [] = refl
 reads_image (step ∷ earlier) =
     let side = side_of step in
-    let seen = read_after earlier in
-    (seen, reads_image earlier, record {
-      here = subst (λ (l : List ℕ). Leaves step (on side seen) (on side seen) l) (sym (on_put side (reads step (on side seen)) seen)) (leaves_reads step (on side seen));
-      there = other_put side (reads step (on side seen)) seen;
-    })
+    let seen = read_after earlier in (
+      seen,
+      reads_image earlier,
+      record {
+        here = subst (λ (l : List ℕ). Leaves step (on side seen) (on side seen) l) (sym (on_put side (reads step (on side seen)) seen)) (leaves_reads step (on side seen));
+        there = other_put side (reads step (on side seen)) seen;
+      },
+    )

@@ -1,5 +1,5 @@
 -- What contracts see of a disk in memory.
-use Rattle.std.specs.Prelude.{true, List, [], length}
+use Rattle.std.specs.Prelude.{◌≡◌, ◌⊎◌, true, List, [], ◌∷◌, length}
 use Rattle.q4_disk.specs.declared.history.Step.{Step}
 use Rattle.q4_disk.specs.declared.tally.Tally.{Tally}
 use Rattle.q4_disk.specs.Told.{Told}
@@ -27,3 +27,7 @@ told_of m = record {
   writes = m.tally.writes;
   syncs = m.tally.syncs;
 }
+
+-- a call that broke in the middle stands in the record, or where memory was wanted for it nothing was begun
+abbrev pub BreaksBy : Step → Memory → Memory → Type 0
+BreaksBy step old new = (new.steps ≡ step ∷ old.steps) ⊎ (new.steps ≡ old.steps)

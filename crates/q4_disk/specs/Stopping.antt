@@ -1,6 +1,5 @@
 -- A disk that stops in the middle of one call.
-use Rattle.std.specs.Prelude.{◌≡◌, ℕ, ◌<◌, ◌≤◌, ◌⊎◌, ◌∷◌, IsTrue}
-use Rattle.q4_disk.specs.declared.history.Step.{Step}
+use Rattle.std.specs.Prelude.{◌≡◌, ℕ, ◌<◌, ◌≤◌, IsTrue}
 use Rattle.q4_disk.specs.declared.stop.Phase.{Phase}
 use Rattle.q4_disk.specs.declared.stop.Phase.TheVariants.{Before, At, Past}
 use Rattle.q4_disk.specs.Told.{Sides, Told}
@@ -29,10 +28,6 @@ IsPhase Past d = d.stop < bump d.made
 -- the next call fails
 abbrev pub FailsNext : Stopping → Type 0
 FailsNext d = d.stop ≤ bump d.made
-
--- the step stands in the record, or where memory was wanted for it nothing was begun
-abbrev pub BreaksBy : Step → Stopping → Stopping → Type 0
-BreaksBy step old new = (new.memory.steps ≡ step ∷ old.memory.steps) ⊎ (new.memory.steps ≡ old.memory.steps)
 
 -- one call more was made of it
 pub record CountsOwn (old new : Stopping) : Type 0 where

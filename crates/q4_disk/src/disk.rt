@@ -15,7 +15,7 @@ pub enum Side {
 pub struct DiskFailed;
 
 /// A disk of two sides. Offsets and sizes are in bytes.
-pub trait Disk: Drop + Send {
+pub trait Disk: Drop {
     /// What contracts see of it.
     ghost told: { Self → Told };
 

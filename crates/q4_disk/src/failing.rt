@@ -1,8 +1,10 @@
-ghost use Rattle.std.specs.Prelude.{◌≡◌, ◌≤◌, ◌↔◌, length, IsTrue, IsOk, IsErr, IfOk};
+ghost use Rattle.std.specs.Prelude.{◌≡◌, ◌≤◌, ◌↔◌, false, length, IsTrue, IsOk, IsErr, IfOk};
 ghost use Rattle.q4_disk.specs.Images.{size};
 ghost use Rattle.q4_disk.specs.Calls.{bump, IsCall, IsWrite, IsSync, Sized, Read, Wrote, DidCut, Synced};
+ghost use Rattle.q4_disk.specs.Memory.{BreaksBy};
 ghost use Rattle.q4_disk.specs.Failing.{failing_told, failing_counts, failing_only, failing_reads, FailsNext, CountsOwn};
 
+use crate::history::Step;
 use crate::{Disk, DiskFailed, MemoryDisk, Numbers, Side};
 use std::marker::Model;
 
@@ -17,6 +19,7 @@ pub struct FailingDisk {
 }
 
 impl Model for FailingDisk {
+    ghost use Rattle.q4_disk.specs.Memory.{BreaksBy};
     ghost use Rattle.q4_disk.specs.Failing.{Failing};
 
     ghost Value = { Failing };
@@ -97,6 +100,7 @@ impl Disk for FailingDisk {
         ensures write { IsTrue (failing_told self.old).honest → Wrote side at bytes.now result (failing_told self.old) (failing_told self.new) }
         ensures own { CountsOwn self.old self.new }
         ensures fails { FailsNext self.old → IsErr result }
+        ensures breaks { FailsNext self.old → BreaksBy (Step.Write side at bytes.now false) self.old.memory self.new.memory }
     {
         if self.fails() {
             return self.inner.break_write(side, at, bytes);
@@ -111,6 +115,7 @@ impl Disk for FailingDisk {
         ensures cut { IsTrue (failing_told self.old).honest → DidCut side length result (failing_told self.old) (failing_told self.new) }
         ensures own { CountsOwn self.old self.new }
         ensures fails { FailsNext self.old → IsErr result }
+        ensures breaks { FailsNext self.old → BreaksBy (Step.CutTo side length false) self.old.memory self.new.memory }
     {
         if self.fails() {
             return self.inner.break_cut(side, length);
@@ -124,6 +129,7 @@ impl Disk for FailingDisk {
         ensures sync { IsTrue (failing_told self.old).honest → Synced side result (failing_told self.old) (failing_told self.new) }
         ensures own { CountsOwn self.old self.new }
         ensures fails { FailsNext self.old → IsErr result }
+        ensures stays { FailsNext self.old → self.new.memory.steps ≡ self.old.memory.steps }
     {
         if self.fails() {
             return self.inner.refuse_sync();

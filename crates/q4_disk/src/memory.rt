@@ -1,7 +1,7 @@
 ghost use Rattle.std.specs.Prelude.{◌≡◌, ◌-◌, ◌≤◌, ◌⊎◌, min, false, [], ◌∷◌, ◌++◌, length, take, drop, reverse, IsTrue, IsOk, IsErr, IfOk};
 ghost use Rattle.q4_disk.specs.Images.{on, size};
 ghost use Rattle.q4_disk.specs.Calls.{IsCall, IsWrite, IsSync, Sized, Read, Wrote, DidCut};
-ghost use Rattle.q4_disk.specs.Memory.{told_of, new_memory};
+ghost use Rattle.q4_disk.specs.Memory.{told_of, new_memory, BreaksBy};
 ghost use Rattle.q4_disk.specs.Laws.{counts, only, reads_image};
 
 use crate::history::{History, Step};
@@ -119,10 +119,13 @@ impl MemoryDisk {
         ensures failed { IsErr result }
         ensures call { IsWrite result (told_of self.old) (told_of self.new) }
         ensures write { Wrote side at bytes.now result (told_of self.old) (told_of self.new) }
-        ensures steps { (self.new.steps ≡ Step.Write side at bytes.now false ∷ self.old.steps) ⊎ (self.new.steps ≡ self.old.steps) }
+        ensures breaks { BreaksBy (Step.Write side at bytes.now false) self.old self.new }
     {
         self.tally.count_write();
-        match self.history.begin_write(self.alloc, side, at as usize, bytes) {
+        match self
+            .history
+            .begin_write(self.alloc, side, at as usize, bytes)
+        {
             Ok(()) => Err(self.tally.count_fault()),
             Err(NoMemory) => Err(self.tally.count_fault()),
         }
@@ -133,7 +136,7 @@ impl MemoryDisk {
         ensures failed { IsErr result }
         ensures call { IsCall result (told_of self.old) (told_of self.new) }
         ensures cut { DidCut side length result (told_of self.old) (told_of self.new) }
-        ensures steps { (self.new.steps ≡ Step.CutTo side length false ∷ self.old.steps) ⊎ (self.new.steps ≡ self.old.steps) }
+        ensures breaks { BreaksBy (Step.CutTo side length false) self.old self.new }
     {
         self.tally.count_call();
         match self.history.begin_cut(side, length as usize) {

@@ -2,9 +2,10 @@ ghost use Rattle.std.specs.Prelude.{◌≡◌, ◌<◌, ◌≤◌, false, [], le
 ghost use Rattle.q4_disk.specs.Told.{Sides};
 ghost use Rattle.q4_disk.specs.Images.{on, put, size};
 ghost use Rattle.q4_disk.specs.Replay.{reads, after};
+ghost use Rattle.q4_disk.specs.Memory.{BreaksBy};
 ghost use Rattle.q4_disk.specs.Picked.{over, of_write, of_cut, picks, pick_after, picked};
 ghost use Rattle.q4_disk.specs.Calls.{bump, IsCall, IsWrite, IsSync, Sized, Read, Wrote, DidCut, Synced};
-ghost use Rattle.q4_disk.specs.Stopping.{stopping_told, stopping_counts, stopping_only, stopping_reads, CountsOwn, IsPhase, FailsNext, BreaksBy};
+ghost use Rattle.q4_disk.specs.Stopping.{stopping_told, stopping_counts, stopping_only, stopping_reads, CountsOwn, IsPhase, FailsNext};
 
 use crate::history::{Step, write_bytes};
 use crate::{Disk, DiskFailed, MemoryDisk, Side};
@@ -60,6 +61,13 @@ impl StopDisk {
             stop,
             made: 0,
         }
+    }
+
+    #[cfg(test)]
+    pub(crate) fn inner(&self) -> &MemoryDisk
+        ensures { result.now ≡ self.now.memory }
+    {
+        &self.inner
     }
 
     // Counts a call, and tells where it stands.
@@ -140,7 +148,7 @@ impl Disk for StopDisk {
         ensures write { IsTrue (stopping_told self.old).honest → Wrote side at bytes.now result (stopping_told self.old) (stopping_told self.new) }
         ensures own { CountsOwn self.old self.new }
         ensures fails { FailsNext self.old → IsErr result }
-        ensures breaks { IsPhase Phase.At self.old → BreaksBy (Step.Write side at bytes.now false) self.old self.new }
+        ensures breaks { IsPhase Phase.At self.old → BreaksBy (Step.Write side at bytes.now false) self.old.memory self.new.memory }
         ensures past { IsPhase Phase.Past self.old → self.new.memory.steps ≡ self.old.memory.steps }
     {
         match self.phase() {
@@ -157,7 +165,7 @@ impl Disk for StopDisk {
         ensures cut { IsTrue (stopping_told self.old).honest → DidCut side length result (stopping_told self.old) (stopping_told self.new) }
         ensures own { CountsOwn self.old self.new }
         ensures fails { FailsNext self.old → IsErr result }
-        ensures breaks { IsPhase Phase.At self.old → BreaksBy (Step.CutTo side length false) self.old self.new }
+        ensures breaks { IsPhase Phase.At self.old → BreaksBy (Step.CutTo side length false) self.old.memory self.new.memory }
         ensures past { IsPhase Phase.Past self.old → self.new.memory.steps ≡ self.old.memory.steps }
     {
         match self.phase() {
@@ -226,7 +234,10 @@ impl Replay {
     {
         match step {
             Step::Write {
-                at, bytes, done, ..
+                at,
+                bytes,
+                done,
+                ..
             } => {
                 let place = (*at).min(self.seen.len());
                 pick_write(self.alloc, &mut self.left, pick, place, bytes.as_slice())?;
@@ -312,12 +323,7 @@ fn pick_cut(alloc: Global, left: &mut Vec<u8>, pick: Pick, to: usize) -> Result<
 }
 
 // Writes at an offset, behind zeros where the end lies before it.
-fn write_over(
-    alloc: Global,
-    left: &mut Vec<u8>,
-    at: usize,
-    bytes: &[u8],
-) -> Result<(), NoMemory>
+fn write_over(alloc: Global, left: &mut Vec<u8>, at: usize, bytes: &[u8]) -> Result<(), NoMemory>
     ensures { OnOk result (left.new.items ≡ over left.old.items at bytes.now) }
 {
     let zeros = copies(alloc, 0, at.saturating_sub(left.len()))?;
