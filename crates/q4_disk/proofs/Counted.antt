@@ -1,9 +1,9 @@
 -- The counts of a call that failed.
-use Rattle.std.proofs.Common.{◌≡◌, ℕ, ◌≤◌, List, Err, refl, ◌∙◌, ap, arith}
+use Rattle.std.proofs.Common.{◌≡◌, ◌≤◌, List, Err, refl, ◌∙◌, ap, arith}
 use Rattle.q4_disk.specs.declared.disk.DiskFailed.{DiskFailed}
 use Rattle.q4_disk.specs.declared.history.Step.{Step}
 use Rattle.q4_disk.specs.declared.tally.Tally.{Tally}
-use Rattle.q4_disk.specs.Calls.{bump, CountsFault, IsCounted, IsCall, IsWrite, IsSync}
+use Rattle.q4_disk.specs.Calls.{bump, CountsFault, IsCall, IsWrite, IsSync}
 use Rattle.q4_disk.proofs.Replayed.{told_at}
 
 faults : {T : Type 0} (failed : DiskFailed) (t0 t1 t2 : Tally) → t1.faults ≡ t0.faults → t2 ≡ record t1 { faults = bump t1.faults } → t1.faults ≤ t2.faults → CountsFault {T = T} (Err failed) t0.faults t2.faults

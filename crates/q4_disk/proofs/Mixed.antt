@@ -1,10 +1,10 @@
 -- The images of the two sides don't depend on each other.
-use Rattle.std.proofs.Common.{◌≡◌, ℕ, List, [], ◌∷◌, refl, sym, ◌∙◌, ap, subst}
+use Rattle.std.proofs.Common.{◌≡◌, ℕ, List, [], ◌∷◌, refl}
 use Rattle.q4_disk.specs.declared.disk.Side.{Side}
 use Rattle.q4_disk.specs.declared.disk.Side.TheVariants.{A, B}
 use Rattle.q4_disk.specs.declared.history.Step.{Step}
 use Rattle.q4_disk.specs.Told.{Sides}
-use Rattle.q4_disk.specs.Images.{on, other, put, both, Sided}
+use Rattle.q4_disk.specs.Images.{on, put, both, Sided}
 use Rattle.q4_disk.specs.Replay.{side_of, Leaves, read_after, IsImage}
 use Rattle.q4_disk.specs.Laws.{reads_image}
 

@@ -1,9 +1,9 @@
 -- How a run of device calls goes on: one lemma for each call. The crates above prove their clauses on crashes by these.
-use Rattle.std.proofs.Common.{◌≡◌, ℕ, ◌+◌, ◌≤◌, ◌⊎◌, List, length, take, Result, Ok, IsTrue, refl, sym, ◌∙◌, inl, inr, arith}
+use Rattle.std.proofs.Common.{◌≡◌, ℕ, ◌≤◌, ◌⊎◌, List, length, take, Result, Ok, IsTrue, refl, ◌∙◌, inl, inr, arith}
 use Rattle.std.proofs.Math.Logic.{⊎_elim}
 use Rattle.q4_disk.specs.declared.disk.Side.{Side}
 use Rattle.q4_disk.specs.Told.{Sides, Told}
-use Rattle.q4_disk.specs.Images.{on, other, written, Torn, Cut, Sided, Within}
+use Rattle.q4_disk.specs.Images.{on, written, Torn, Cut, Sided}
 use Rattle.q4_disk.specs.Time.{Elapses, LeavesOnly, OtherStays}
 use Rattle.q4_disk.specs.Calls.{Rests, Steps, Wrote, DidCut, Synced}
 

@@ -1,16 +1,15 @@
 -- What is picked is an image.
 use Rattle.std.proofs.Common.{◌≡◌, ℕ, ◌+◌, ◌-◌, ◌/◌, ◌<◌, ◌≤◌, ◌==◌, min, Bool, true, false, if◌then◌else◌, List, [], ◌∷◌, ◌++◌, length, take, drop, replicate, refl, sym, ◌∙◌, ap, subst, arith, append_assoc, length-append, suc, zero}
-use Rattle.std.proofs.lemmas.List.{take_at, drop_at, take_all, length-take, length-drop, length-replicate, drop-drop}
+use Rattle.std.proofs.lemmas.List.{take_at, drop_at, length-take, length-drop, length-replicate, drop-drop}
 use Rattle.q4_disk.specs.declared.disk.Side.{Side}
 use Rattle.q4_disk.specs.declared.disk.Side.TheVariants.{A, B}
 use Rattle.q4_disk.specs.declared.history.Step.{Step}
 use Rattle.q4_disk.specs.declared.history.Step.TheVariants.{Write, CutTo, Sync}
 use Rattle.q4_disk.specs.declared.stop.Pick.{Pick}
 use Rattle.q4_disk.specs.declared.stop.Pick.TheVariants.{Kept, Lost, Half, Ones}
-use Rattle.q4_disk.specs.Told.{Sides}
-use Rattle.q4_disk.specs.Images.{on, other, put, Torn, Cut, Sided}
+use Rattle.q4_disk.specs.Images.{on, put, Torn, Cut}
 use Rattle.q4_disk.specs.Replay.{side_of, place, Leaves, read_after, IsImage}
-use Rattle.q4_disk.specs.Picked.{over, half, of_write, of_cut, picks, pick_after, picked}
+use Rattle.q4_disk.specs.Picked.{over, half, of_write, of_cut, picks, picked}
 use Rattle.q4_disk.specs.Laws.{on_put, other_put, torn_none, cut_whole, cut_none}
 use Rattle.q4_disk.proofs.Mixed.{mix}
 

@@ -1,16 +1,16 @@
 -- One more call in a record.
-use Rattle.std.proofs.Common.{◌≡◌, ℕ, ◌≤◌, ◌⊎◌, Bool, true, false, List, [], ◌∷◌, length, take, Result, Ok, Err, IsErr, OnOk, OnErr, refl, sym, ◌∙◌, ap, subst, inl, inr, arith}
+use Rattle.std.proofs.Common.{◌≡◌, ℕ, ◌≤◌, ◌⊎◌, Bool, true, false, List, ◌∷◌, length, take, Result, Ok, Err, IsErr, OnOk, OnErr, refl, sym, ◌∙◌, ap, subst, inl, inr, arith}
 use Rattle.q4_disk.specs.declared.disk.Side.{Side}
 use Rattle.q4_disk.specs.declared.disk.DiskFailed.{DiskFailed}
 use Rattle.q4_disk.specs.declared.history.Step.{Step}
 use Rattle.q4_disk.specs.declared.history.Step.TheVariants.{Write, CutTo, Sync}
 use Rattle.q4_disk.specs.declared.tally.Tally.{Tally}
-use Rattle.q4_disk.specs.Told.{Sides, Told}
-use Rattle.q4_disk.specs.Images.{on, put, written, Torn, Cut, Sided}
+use Rattle.q4_disk.specs.Told.{Told}
+use Rattle.q4_disk.specs.Images.{on, put, written, Torn, Cut}
 use Rattle.q4_disk.specs.Time.{Elapses}
 use Rattle.q4_disk.specs.Calls.{Steps, Wrote, DidCut, Synced}
-use Rattle.q4_disk.specs.Replay.{side_of, place, reads, Leaves, read_after, IsImage, Since}
-use Rattle.q4_disk.specs.Memory.{Memory, told_of}
+use Rattle.q4_disk.specs.Replay.{side_of, place, reads, Leaves, read_after, IsImage}
+use Rattle.q4_disk.specs.Memory.{told_of}
 use Rattle.q4_disk.specs.Laws.{on_put, other_put, torn_none, cut_none}
 use Rattle.q4_disk.proofs.Mixed.{put_same, sided_put, put_read}
 

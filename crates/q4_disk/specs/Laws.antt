@@ -1,5 +1,5 @@
 -- What holds of each record of calls.
-use Rattle.std.specs.Prelude.{◌≡◌, ℕ, ◌+◌, ◌-◌, ◌≤◌, ◌⊎◌, min, max, Bool, true, false, if◌then◌else◌, List, [], ◌∷◌, ◌++◌, length, take, drop, refl}
+use Rattle.std.specs.Prelude.{◌≡◌, ℕ, ◌+◌, ◌-◌, ◌≤◌, min, true, false, List, [], ◌∷◌, ◌++◌, length, take, drop, refl}
 use Rattle.std.proofs.Common.{inl, inr, sym, ◌∙◌, ap, subst, arith, append_assoc, length-append}
 use Rattle.std.proofs.lemmas.List.{take_at, drop_at, take_min, take_all, length-take, length-drop}
 use Rattle.q4_disk.specs.declared.disk.Side.{Side}
@@ -7,8 +7,8 @@ use Rattle.q4_disk.specs.declared.disk.Side.TheVariants.{A, B}
 use Rattle.q4_disk.specs.declared.history.Step.{Step}
 use Rattle.q4_disk.specs.declared.history.Step.TheVariants.{Write, CutTo, Sync}
 use Rattle.q4_disk.specs.Told.{Sides}
-use Rattle.q4_disk.specs.Images.{on, other, put, both, written, Torn, Cut, Sided}
-use Rattle.q4_disk.specs.Replay.{side_of, place, reads, Leaves, no_bytes, read_after, IsImage, Since}
+use Rattle.q4_disk.specs.Images.{on, other, put, written, Torn, Cut}
+use Rattle.q4_disk.specs.Replay.{side_of, place, reads, Leaves, read_after, IsImage, Since}
 
 -- this moment is one of those since an earlier one
 pub counts : (steps : List Step) (t : ℕ) (c : Sides) → t ≤ length steps → IsImage steps c → Since steps t c

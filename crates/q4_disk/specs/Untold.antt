@@ -1,5 +1,5 @@
 -- What contracts see of a disk of real files: its counts, and no content.
-use Rattle.std.specs.Prelude.{ℕ, false, IsTrue, [], ◌≤◌}
+use Rattle.std.specs.Prelude.{ℕ, false, IsTrue, ◌≤◌}
 use Rattle.q4_disk.specs.declared.tally.Tally.{Tally}
 use Rattle.q4_disk.specs.Told.{Sides, Told}
 use Rattle.q4_disk.specs.Replay.{no_bytes}

@@ -15,6 +15,9 @@ pub enum Side {
 pub struct DiskFailed;
 
 /// A disk of two sides. Offsets and sizes are in bytes.
+///
+/// A disk may be honest: then its clauses say what is read and what a crash may leave. `docs/DECISIONS.md`, "Disks",
+/// says what that takes of a real one.
 pub trait Disk: Drop {
     /// What contracts see of it.
     ghost told: { Self → Told };
@@ -25,6 +28,7 @@ pub trait Disk: Drop {
         ensures size { IsTrue (told self.old).honest → Sized side result (told self.old) (told self.new) };
 
     /// Reads as many bytes as stand after `at`, at most the slice's length, and tells how many.
+    /// After a failure the slice may hold anything.
     fn read(&mut self, side: Side, at: u64, into: &mut [u8]) -> Result<usize, DiskFailed>
         ensures call { IsCall result (told self.old) (told self.new) }
         ensures room { IfOk result (λ n. n ≤ length into.old) }

@@ -67,7 +67,7 @@ impl Disk for FailingDisk {
     /// It fails exactly where its number is listed.
     fn size(&mut self, side: Side) -> Result<u64, DiskFailed>
         ensures call { IsCall result (failing_told self.old) (failing_told self.new) }
-        ensures size { IsTrue (failing_told self.old).honest → Sized side result (failing_told self.old) (failing_told self.new) }
+        ensures size { Sized side result (failing_told self.old) (failing_told self.new) }
         ensures own { CountsOwn self.old self.new }
         ensures fails { FailsNext self.old → IsErr result }
         ensures passes { ¬ FailsNext self.old → IsOk result }
@@ -82,7 +82,7 @@ impl Disk for FailingDisk {
     fn read(&mut self, side: Side, at: u64, into: &mut [u8]) -> Result<usize, DiskFailed>
         ensures call { IsCall result (failing_told self.old) (failing_told self.new) }
         ensures room { IfOk result (λ n. n ≤ length into.old) }
-        ensures read { IsTrue (failing_told self.old).honest → Read side at into.old into.new result (failing_told self.old) (failing_told self.new) }
+        ensures read { Read side at into.old into.new result (failing_told self.old) (failing_told self.new) }
         ensures own { CountsOwn self.old self.new }
         ensures fails { FailsNext self.old → IsErr result }
         ensures passes { ¬ FailsNext self.old → IsOk result }
@@ -95,9 +95,9 @@ impl Disk for FailingDisk {
 
     /// It fails where its number is listed, and else only where memory is wanted.
     fn write(&mut self, side: Side, at: u64, bytes: &[u8]) -> Result<(), DiskFailed>
-        requires { IsTrue (failing_told self.old).honest → at ≤ size side (failing_told self.old).bytes }
+        requires { at ≤ size side (failing_told self.old).bytes }
         ensures call { IsWrite result (failing_told self.old) (failing_told self.new) }
-        ensures write { IsTrue (failing_told self.old).honest → Wrote side at bytes.now result (failing_told self.old) (failing_told self.new) }
+        ensures write { Wrote side at bytes.now result (failing_told self.old) (failing_told self.new) }
         ensures own { CountsOwn self.old self.new }
         ensures fails { FailsNext self.old → IsErr result }
         ensures breaks { FailsNext self.old → BreaksBy (Step.Write side at bytes.now false) self.old.memory self.new.memory }
@@ -110,9 +110,9 @@ impl Disk for FailingDisk {
 
     /// It fails where its number is listed, and else only where memory is wanted.
     fn cut(&mut self, side: Side, length: u64) -> Result<(), DiskFailed>
-        requires { IsTrue (failing_told self.old).honest → length ≤ size side (failing_told self.old).bytes }
+        requires { length ≤ size side (failing_told self.old).bytes }
         ensures call { IsCall result (failing_told self.old) (failing_told self.new) }
-        ensures cut { IsTrue (failing_told self.old).honest → DidCut side length result (failing_told self.old) (failing_told self.new) }
+        ensures cut { DidCut side length result (failing_told self.old) (failing_told self.new) }
         ensures own { CountsOwn self.old self.new }
         ensures fails { FailsNext self.old → IsErr result }
         ensures breaks { FailsNext self.old → BreaksBy (Step.CutTo side length false) self.old.memory self.new.memory }
@@ -126,7 +126,7 @@ impl Disk for FailingDisk {
     /// It fails where its number is listed, and else only where memory is wanted.
     fn sync(&mut self, side: Side) -> Result<(), DiskFailed>
         ensures call { IsSync result (failing_told self.old) (failing_told self.new) }
-        ensures sync { IsTrue (failing_told self.old).honest → Synced side result (failing_told self.old) (failing_told self.new) }
+        ensures sync { Synced side result (failing_told self.old) (failing_told self.new) }
         ensures own { CountsOwn self.old self.new }
         ensures fails { FailsNext self.old → IsErr result }
         ensures stays { FailsNext self.old → self.new.memory.steps ≡ self.old.memory.steps }

@@ -8,9 +8,8 @@ use std::io;
 use std::marker::Model;
 use std::path::Path;
 
-/// Opens disks of real files: `NAME.a` and `NAME.b`, made empty where they aren't there.
-///
-/// It locks both files against other users that ask for a lock, until the disk is dropped.
+/// Opens disks of real files: `NAME.a` and `NAME.b`, made empty where they aren't there (`docs/FORMATS.md`,
+/// "Files of a table"). Both are locked until the disk is dropped, against others that ask for a lock.
 #[derive(Drop)]
 pub struct FileMaker<R: Files<File = File>> {
     files: R,
@@ -43,7 +42,7 @@ impl<R: Files<File = File>> DiskMaker for FileMaker<R> {
 
     ghost faults = { λ m. m };
 
-    /// `Failed` where a file or its folder cannot be opened, or another user has a lock.
+    /// `Failed` where a file or its folder cannot be opened, is no regular file, or another user has a lock.
     fn make(&mut self, alloc: Global, name: &str) -> Result<FileDisk, MakeFault> {
         let Ok(a) = format!(in alloc; "{name}.a") else {
             return Err(MakeFault::Memory);
@@ -70,9 +69,12 @@ fn open_pair<R: Files<File = File>>(files: &R, a: &str, b: &str) -> io::Result<F
     Ok(FileDisk::new(first, second))
 }
 
-// Opens a file for this user alone, and tells whether it was made.
+// Opens a regular file for this user alone, and tells whether it was made.
 fn open_locked<R: Files<File = File>>(files: &R, path: &str) -> io::Result<(File, bool)> {
     let (file, made) = open_or_make(files, path)?;
+    if !file.metadata()?.is_file() {
+        return Err(io::ErrorKind::Unsupported.into());
+    }
     file.try_lock()?;
     Ok((file, made))
 }

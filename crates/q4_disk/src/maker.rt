@@ -52,9 +52,7 @@ impl DiskMaker for MemoryMaker {
     ghost faults = { λ m. 0 };
 
     fn make(&mut self, alloc: Global, name: &str) -> Result<MemoryDisk, MakeFault>
-        ensures made { IfOk result (λ disk. IsTrue true → IsMadeAs (told_of disk) IsEmpty) }
-        ensures others { (n : List ℕ) → n ≢ name.now → StaysTold true true IsEmpty IsEmpty }
-        ensures faults { CountsMake result 0 0 }
+        ensures made { IfOk result (λ disk. IsMadeAs (told_of disk) IsEmpty) }
         ensures ok { IsOk result }
         ensures new { IfOk result (λ disk. disk ≡ new_memory) }
     {
@@ -96,9 +94,7 @@ impl DiskMaker for FailingMaker {
 
     /// It answers only want of memory, for the copy of the numbers.
     fn make(&mut self, alloc: Global, name: &str) -> Result<FailingDisk, MakeFault>
-        ensures made { IfOk result (λ disk. IsTrue true → IsMadeAs (failing_told disk) IsEmpty) }
-        ensures others { (n : List ℕ) → n ≢ name.now → StaysTold true true IsEmpty IsEmpty }
-        ensures faults { CountsMake result 0 0 }
+        ensures made { IfOk result (λ disk. IsMadeAs (failing_told disk) IsEmpty) }
         ensures memory { IfErr result (λ fault. fault ≡ MakeFault.Memory) }
         ensures new { IfOk result (λ disk. disk ≡ record { memory = new_memory; numbers = self.old; made = 0 }) }
         ensures same { self.new ≡ self.old }

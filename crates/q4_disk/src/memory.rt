@@ -1,4 +1,4 @@
-ghost use Rattle.std.specs.Prelude.{◌≡◌, ◌-◌, ◌≤◌, ◌⊎◌, min, false, [], ◌∷◌, ◌++◌, length, take, drop, reverse, IsTrue, IsOk, IsErr, IfOk};
+ghost use Rattle.std.specs.Prelude.{◌≡◌, ◌-◌, ◌≤◌, ◌⊎◌, min, false, [], ◌∷◌, ◌++◌, length, take, drop, reverse, IsOk, IsErr, IfOk};
 ghost use Rattle.q4_disk.specs.Images.{on, size};
 ghost use Rattle.q4_disk.specs.Calls.{IsCall, IsWrite, IsSync, Sized, Read, Wrote, DidCut};
 ghost use Rattle.q4_disk.specs.Memory.{told_of, new_memory, BreaksBy};
@@ -158,7 +158,7 @@ impl Disk for MemoryDisk {
     /// It never fails.
     fn size(&mut self, side: Side) -> Result<u64, DiskFailed>
         ensures call { IsCall result (told_of self.old) (told_of self.new) }
-        ensures size { IsTrue (told_of self.old).honest → Sized side result (told_of self.old) (told_of self.new) }
+        ensures size { Sized side result (told_of self.old) (told_of self.new) }
         ensures ok { IsOk result }
     {
         self.tally.count_call();
@@ -169,7 +169,7 @@ impl Disk for MemoryDisk {
     fn read(&mut self, side: Side, at: u64, into: &mut [u8]) -> Result<usize, DiskFailed>
         ensures call { IsCall result (told_of self.old) (told_of self.new) }
         ensures room { IfOk result (λ n. n ≤ length into.old) }
-        ensures read { IsTrue (told_of self.old).honest → Read side at into.old into.new result (told_of self.old) (told_of self.new) }
+        ensures read { Read side at into.old into.new result (told_of self.old) (told_of self.new) }
         ensures ok { IsOk result }
     {
         self.tally.count_call();

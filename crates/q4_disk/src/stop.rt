@@ -1,4 +1,4 @@
-ghost use Rattle.std.specs.Prelude.{◌≡◌, ◌<◌, ◌≤◌, false, [], length, replicate, IsTrue, IsOk, IsErr, IfOk, OnOk};
+ghost use Rattle.std.specs.Prelude.{◌≡◌, ◌<◌, ◌≤◌, false, [], length, replicate, IsOk, IsErr, IfOk, OnOk};
 ghost use Rattle.q4_disk.specs.Told.{Sides};
 ghost use Rattle.q4_disk.specs.Images.{on, put, size};
 ghost use Rattle.q4_disk.specs.Replay.{reads, after};
@@ -113,7 +113,7 @@ impl Disk for StopDisk {
     /// It fails exactly from the stop on.
     fn size(&mut self, side: Side) -> Result<u64, DiskFailed>
         ensures call { IsCall result (stopping_told self.old) (stopping_told self.new) }
-        ensures size { IsTrue (stopping_told self.old).honest → Sized side result (stopping_told self.old) (stopping_told self.new) }
+        ensures size { Sized side result (stopping_told self.old) (stopping_told self.new) }
         ensures own { CountsOwn self.old self.new }
         ensures passes { bump self.old.made < self.old.stop → IsOk result }
         ensures fails { FailsNext self.old → IsErr result }
@@ -129,7 +129,7 @@ impl Disk for StopDisk {
     fn read(&mut self, side: Side, at: u64, into: &mut [u8]) -> Result<usize, DiskFailed>
         ensures call { IsCall result (stopping_told self.old) (stopping_told self.new) }
         ensures room { IfOk result (λ n. n ≤ length into.old) }
-        ensures read { IsTrue (stopping_told self.old).honest → Read side at into.old into.new result (stopping_told self.old) (stopping_told self.new) }
+        ensures read { Read side at into.old into.new result (stopping_told self.old) (stopping_told self.new) }
         ensures own { CountsOwn self.old self.new }
         ensures passes { bump self.old.made < self.old.stop → IsOk result }
         ensures fails { FailsNext self.old → IsErr result }
@@ -143,9 +143,9 @@ impl Disk for StopDisk {
 
     /// It fails from the stop on, and before it only where memory is wanted.
     fn write(&mut self, side: Side, at: u64, bytes: &[u8]) -> Result<(), DiskFailed>
-        requires { IsTrue (stopping_told self.old).honest → at ≤ size side (stopping_told self.old).bytes }
+        requires { at ≤ size side (stopping_told self.old).bytes }
         ensures call { IsWrite result (stopping_told self.old) (stopping_told self.new) }
-        ensures write { IsTrue (stopping_told self.old).honest → Wrote side at bytes.now result (stopping_told self.old) (stopping_told self.new) }
+        ensures write { Wrote side at bytes.now result (stopping_told self.old) (stopping_told self.new) }
         ensures own { CountsOwn self.old self.new }
         ensures fails { FailsNext self.old → IsErr result }
         ensures breaks { IsPhase Phase.At self.old → BreaksBy (Step.Write side at bytes.now false) self.old.memory self.new.memory }
@@ -160,9 +160,9 @@ impl Disk for StopDisk {
 
     /// It fails from the stop on, and before it only where memory is wanted.
     fn cut(&mut self, side: Side, length: u64) -> Result<(), DiskFailed>
-        requires { IsTrue (stopping_told self.old).honest → length ≤ size side (stopping_told self.old).bytes }
+        requires { length ≤ size side (stopping_told self.old).bytes }
         ensures call { IsCall result (stopping_told self.old) (stopping_told self.new) }
-        ensures cut { IsTrue (stopping_told self.old).honest → DidCut side length result (stopping_told self.old) (stopping_told self.new) }
+        ensures cut { DidCut side length result (stopping_told self.old) (stopping_told self.new) }
         ensures own { CountsOwn self.old self.new }
         ensures fails { FailsNext self.old → IsErr result }
         ensures breaks { IsPhase Phase.At self.old → BreaksBy (Step.CutTo side length false) self.old.memory self.new.memory }
@@ -178,7 +178,7 @@ impl Disk for StopDisk {
     /// It fails from the stop on, and before it only where memory is wanted. A sync that breaks leaves all as it was.
     fn sync(&mut self, side: Side) -> Result<(), DiskFailed>
         ensures call { IsSync result (stopping_told self.old) (stopping_told self.new) }
-        ensures sync { IsTrue (stopping_told self.old).honest → Synced side result (stopping_told self.old) (stopping_told self.new) }
+        ensures sync { Synced side result (stopping_told self.old) (stopping_told self.new) }
         ensures own { CountsOwn self.old self.new }
         ensures fails { FailsNext self.old → IsErr result }
         ensures stays { FailsNext self.old → self.new.memory.steps ≡ self.old.memory.steps }
