@@ -1,4 +1,4 @@
-ghost use Rattle.std.specs.Prelude.{◌≡◌, ◌-◌, ◌≤◌, ◌⊎◌, min, false, [], ◌∷◌, ◌++◌, length, take, drop, reverse, IsOk, IsErr, IfOk};
+ghost use Rattle.std.specs.Prelude.{◌≡◌, ◌-◌, ◌≤◌, min, false, ◌++◌, length, take, drop, reverse, IsOk, IsErr, IfOk};
 ghost use Rattle.q4_disk.specs.Images.{on, size};
 ghost use Rattle.q4_disk.specs.Calls.{IsCall, IsWrite, IsSync, Sized, Read, Wrote, DidCut};
 ghost use Rattle.q4_disk.specs.Memory.{told_of, new_memory, BreaksBy};

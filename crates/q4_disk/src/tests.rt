@@ -1,9 +1,8 @@
-ghost use Rattle.std.specs.Prelude.{◌≡◌, ℕ, ◌≤◌, ◌⊎◌, length, IsTrue, OnOk};
+ghost use Rattle.std.specs.Prelude.{◌≡◌, length, IsTrue, OnOk};
 ghost use Rattle.q4_disk.specs.Told.{Sides};
 ghost use Rattle.q4_disk.specs.Images.{on, written, Torn, Sided};
 ghost use Rattle.q4_disk.specs.Time.{LeavesOnly};
 ghost use Rattle.q4_disk.specs.Calls.{CountsFault};
-ghost use Rattle.q4_disk.specs.Memory.{told_of};
 
 use crate::{
     Disk, DiskFailed, DiskMaker, FailingMaker, FileDisk, FileMaker, MakeFault, MemoryDisk,
