@@ -8,7 +8,8 @@ use crate::history::Step;
 use crate::{Disk, DiskFailed, MemoryDisk, Numbers, Side};
 use std::marker::Model;
 
-/// A disk in memory whose calls of given numbers fail. The first call that is made of it is number 1.
+/// A disk in memory whose calls of given numbers fail. The first call that is made of it is
+/// number 1.
 ///
 /// A write or a cut that fails here has begun: a crash may leave any of it.
 #[derive(Drop)]
@@ -82,7 +83,8 @@ impl Disk for FailingDisk {
     fn read(&mut self, side: Side, at: u64, into: &mut [u8]) -> Result<usize, DiskFailed>
         ensures call { IsCall result (failing_told self.old) (failing_told self.new) }
         ensures room { IfOk result (λ n. n ≤ length into.old) }
-        ensures read { Read side at into.old into.new result (failing_told self.old) (failing_told self.new) }
+        ensures read { Read side at into.old into.new result
+            (failing_told self.old) (failing_told self.new) }
         ensures own { CountsOwn self.old self.new }
         ensures fails { FailsNext self.old → IsErr result }
         ensures passes { ¬ FailsNext self.old → IsOk result }
@@ -97,10 +99,12 @@ impl Disk for FailingDisk {
     fn write(&mut self, side: Side, at: u64, bytes: &[u8]) -> Result<(), DiskFailed>
         requires { at ≤ size side (failing_told self.old).bytes }
         ensures call { IsWrite result (failing_told self.old) (failing_told self.new) }
-        ensures write { Wrote side at bytes.now result (failing_told self.old) (failing_told self.new) }
+        ensures write { Wrote side at bytes.now result
+            (failing_told self.old) (failing_told self.new) }
         ensures own { CountsOwn self.old self.new }
         ensures fails { FailsNext self.old → IsErr result }
-        ensures breaks { FailsNext self.old → BreaksBy (Step.Write side at bytes.now false) self.old.memory self.new.memory }
+        ensures breaks { FailsNext self.old →
+            BreaksBy (Step.Write side at bytes.now false) self.old.memory self.new.memory }
     {
         if self.fails() {
             return self.inner.break_write(side, at, bytes);
@@ -115,7 +119,8 @@ impl Disk for FailingDisk {
         ensures cut { DidCut side length result (failing_told self.old) (failing_told self.new) }
         ensures own { CountsOwn self.old self.new }
         ensures fails { FailsNext self.old → IsErr result }
-        ensures breaks { FailsNext self.old → BreaksBy (Step.CutTo side length false) self.old.memory self.new.memory }
+        ensures breaks { FailsNext self.old →
+            BreaksBy (Step.CutTo side length false) self.old.memory self.new.memory }
     {
         if self.fails() {
             return self.inner.break_cut(side, length);

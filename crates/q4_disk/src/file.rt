@@ -11,7 +11,8 @@ use std::os::unix::fs::FileExt;
 // Where no byte of a file can stand.
 const NO_OFFSET: u64 = 1 << 63;
 
-/// A disk of two real files, which a `FileMaker` opens. It counts its calls and faults, and tells no content.
+/// A disk of two real files, which a `FileMaker` opens. It counts its calls and faults, and tells no
+/// content.
 #[derive(Drop)]
 pub struct FileDisk {
     a: File,

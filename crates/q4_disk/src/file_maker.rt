@@ -8,8 +8,9 @@ use std::io;
 use std::marker::Model;
 use std::path::Path;
 
-/// Opens disks of real files: `NAME.a` and `NAME.b`, made empty where they aren't there (`docs/FORMATS.md`,
-/// "Files of a table"). Both are locked until the disk is dropped, against others that ask for a lock.
+/// Opens disks of real files: `NAME.a` and `NAME.b`, made empty where they aren't there
+/// (`docs/FORMATS.md`, "Files of a table"). Both are locked until the disk is dropped, against others
+/// that ask for a lock.
 #[derive(Drop)]
 pub struct FileMaker<R: Files<File = File>> {
     files: R,
@@ -42,7 +43,8 @@ impl<R: Files<File = File>> DiskMaker for FileMaker<R> {
 
     ghost faults = { λ m. m };
 
-    /// `Failed` where a file or its folder cannot be opened, is no regular file, or another user has a lock.
+    /// `Failed` where a file or its folder cannot be opened, where what has the name is no regular
+    /// file, or where another has it locked.
     fn make(&mut self, alloc: Global, name: &str) -> Result<FileDisk, MakeFault> {
         let Ok(a) = format!(in alloc; "{name}.a") else {
             return Err(MakeFault::Memory);

@@ -7,7 +7,8 @@ use q4_value::{Bytes, NoMemory};
 use std::alloc::Global;
 use std::marker::Model;
 
-/// A call that changed what is read or what a crash may leave. One that isn't `done` was cut off in the middle.
+/// A call that changed what is read or what a crash may leave. One that isn't `done` was cut off in
+/// the middle.
 #[derive(Drop)]
 pub(crate) enum Step {
     Write {
@@ -26,7 +27,8 @@ pub(crate) enum Step {
     },
 }
 
-/// The calls of a disk, and the bytes that they give when they are read. A contract sees the calls, the newest first.
+/// The calls of a disk, and the bytes that they give when they are read. A contract sees the calls,
+/// the newest first.
 #[derive(Drop)]
 pub(crate) struct History {
     a: Vec<u8>,
@@ -140,7 +142,8 @@ impl History {
         self.note(Step::Sync { side })
     }
 
-    /// Begins a write that isn't done: what is read stays, and a crash may leave any of it. A refusal changes nothing.
+    /// Begins a write that isn't done: what is read stays, and a crash may leave any of it.
+    /// A refusal changes nothing.
     pub fn begin_write(
         &mut self,
         alloc: Global,

@@ -33,8 +33,10 @@ pub trait DiskMaker {
 
     /// Makes the disk of a name. What is told of every other name stays, also where this fails.
     fn make(&mut self, alloc: Global, name: &str) -> Result<Self::Disk, MakeFault>
-        ensures made { IfOk result (λ disk. IsTrue (tells self.old name.now) → IsMadeAs (Self.Disk.told disk) (first self.old name.now)) }
-        ensures others { (n : List ℕ) → n ≢ name.now → StaysTold (tells self.old n) (tells self.new n) (first self.old n) (first self.new n) }
+        ensures made { IfOk result (λ disk. IsTrue (tells self.old name.now) →
+            IsMadeAs (Self.Disk.told disk) (first self.old name.now)) }
+        ensures others { (n : List ℕ) → n ≢ name.now →
+            StaysTold (tells self.old n) (tells self.new n) (first self.old n) (first self.new n) }
         ensures faults { CountsMake result (faults self.old) (faults self.new) };
 }
 
@@ -96,7 +98,8 @@ impl DiskMaker for FailingMaker {
     fn make(&mut self, alloc: Global, name: &str) -> Result<FailingDisk, MakeFault>
         ensures made { IfOk result (λ disk. IsMadeAs (failing_told disk) IsEmpty) }
         ensures memory { IfErr result (λ fault. fault ≡ MakeFault.Memory) }
-        ensures new { IfOk result (λ disk. disk ≡ record { memory = new_memory; numbers = self.old; made = 0 }) }
+        ensures new { IfOk result
+            (λ disk. disk ≡ record { memory = new_memory; numbers = self.old; made = 0 }) }
         ensures same { self.new ≡ self.old }
     {
         match self.failing.copy(alloc) {

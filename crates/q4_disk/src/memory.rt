@@ -107,8 +107,8 @@ impl MemoryDisk {
         Err(self.tally.count_fault())
     }
 
-    /// A write that fails in the middle: what is read stays, and a crash may leave any of it. Where memory is wanted
-    /// for the record it leaves nothing.
+    /// A write that fails in the middle: what is read stays, and a crash may leave any of it. Where
+    /// memory is wanted for the record it leaves nothing.
     pub(crate) fn break_write(
         &mut self,
         side: Side,

@@ -89,7 +89,9 @@ impl StopDisk {
     pub fn image(&self, alloc: Global, side: Side, pick: Pick) -> Result<Bytes, NoMemory>
         ensures image { IfOk result (λ bytes. bytes ≡ on side (picked pick self.now.memory.steps)) }
         // It is an image, whichever pick goes with it for the other side.
-        ensures allowed { (there : Pick) → (stopping_told self.now).images (put side (on side (picked pick self.now.memory.steps)) (picked there self.now.memory.steps)) }
+        ensures allowed { (there : Pick) → let steps = self.now.memory.steps in
+            (stopping_told self.now).images
+            (put side (on side (picked pick steps)) (picked there steps)) }
     {
         let mut replay = Replay::new(alloc);
         for step in self.inner.steps() {
@@ -129,7 +131,8 @@ impl Disk for StopDisk {
     fn read(&mut self, side: Side, at: u64, into: &mut [u8]) -> Result<usize, DiskFailed>
         ensures call { IsCall result (stopping_told self.old) (stopping_told self.new) }
         ensures room { IfOk result (λ n. n ≤ length into.old) }
-        ensures read { Read side at into.old into.new result (stopping_told self.old) (stopping_told self.new) }
+        ensures read { Read side at into.old into.new result
+            (stopping_told self.old) (stopping_told self.new) }
         ensures own { CountsOwn self.old self.new }
         ensures passes { bump self.old.made < self.old.stop → IsOk result }
         ensures fails { FailsNext self.old → IsErr result }
@@ -145,10 +148,12 @@ impl Disk for StopDisk {
     fn write(&mut self, side: Side, at: u64, bytes: &[u8]) -> Result<(), DiskFailed>
         requires { at ≤ size side (stopping_told self.old).bytes }
         ensures call { IsWrite result (stopping_told self.old) (stopping_told self.new) }
-        ensures write { Wrote side at bytes.now result (stopping_told self.old) (stopping_told self.new) }
+        ensures write { Wrote side at bytes.now result
+            (stopping_told self.old) (stopping_told self.new) }
         ensures own { CountsOwn self.old self.new }
         ensures fails { FailsNext self.old → IsErr result }
-        ensures breaks { IsPhase Phase.At self.old → BreaksBy (Step.Write side at bytes.now false) self.old.memory self.new.memory }
+        ensures breaks { IsPhase Phase.At self.old →
+            BreaksBy (Step.Write side at bytes.now false) self.old.memory self.new.memory }
         ensures past { IsPhase Phase.Past self.old → self.new.memory.steps ≡ self.old.memory.steps }
     {
         match self.phase() {
@@ -165,7 +170,8 @@ impl Disk for StopDisk {
         ensures cut { DidCut side length result (stopping_told self.old) (stopping_told self.new) }
         ensures own { CountsOwn self.old self.new }
         ensures fails { FailsNext self.old → IsErr result }
-        ensures breaks { IsPhase Phase.At self.old → BreaksBy (Step.CutTo side length false) self.old.memory self.new.memory }
+        ensures breaks { IsPhase Phase.At self.old →
+            BreaksBy (Step.CutTo side length false) self.old.memory self.new.memory }
         ensures past { IsPhase Phase.Past self.old → self.new.memory.steps ≡ self.old.memory.steps }
     {
         match self.phase() {
@@ -175,7 +181,8 @@ impl Disk for StopDisk {
         }
     }
 
-    /// It fails from the stop on, and before it only where memory is wanted. A sync that breaks leaves all as it was.
+    /// It fails from the stop on, and before it only where memory is wanted. A sync that breaks leaves
+    /// all as it was.
     fn sync(&mut self, side: Side) -> Result<(), DiskFailed>
         ensures call { IsSync result (stopping_told self.old) (stopping_told self.new) }
         ensures sync { Synced side result (stopping_told self.old) (stopping_told self.new) }
@@ -219,8 +226,11 @@ impl Replay {
 
     // One call more, which may be one of the other side.
     fn add(&mut self, side: Side, pick: Pick, step: &Step) -> Result<(), NoMemory>
-        ensures seen { OnOk result ((s : Sides) → on side s ≡ self.old.seen.items → on side (after step.now s) ≡ self.new.seen.items) }
-        ensures left { OnOk result ((s c : Sides) → on side s ≡ self.old.seen.items → on side c ≡ self.old.left.items → on side (pick_after pick step.now s c) ≡ self.new.left.items) }
+        ensures seen { OnOk result ((s : Sides) → on side s ≡ self.old.seen.items →
+            on side (after step.now s) ≡ self.new.seen.items) }
+        ensures left { OnOk result ((s c : Sides) → on side s ≡ self.old.seen.items →
+            on side c ≡ self.old.left.items →
+            on side (pick_after pick step.now s c) ≡ self.new.left.items) }
     {
         if step.side() != side {
             return Ok(());
@@ -230,7 +240,8 @@ impl Replay {
 
     fn make(&mut self, pick: Pick, step: &Step) -> Result<(), NoMemory>
         ensures seen { OnOk result (self.new.seen.items ≡ reads step.now self.old.seen.items) }
-        ensures left { OnOk result (self.new.left.items ≡ picks pick step.now self.old.seen.items self.old.left.items) }
+        ensures left { OnOk result
+            (self.new.left.items ≡ picks pick step.now self.old.seen.items self.old.left.items) }
     {
         match step {
             Step::Write {

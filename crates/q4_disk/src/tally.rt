@@ -3,7 +3,8 @@ ghost use Rattle.q4_disk.specs.Calls.{bump};
 
 use crate::DiskFailed;
 
-/// The numbers of a disk's calls, failed ones among them, and of its faults. Each stops at the end of its type.
+/// The numbers of a disk's calls, failed ones among them, and of its faults. Each stops at the end
+/// of its type.
 #[derive(Clone, Copy)]
 pub(crate) struct Tally {
     pub faults: u64,
@@ -32,14 +33,16 @@ impl Tally {
     }
 
     pub fn count_write(&mut self)
-        ensures { self.new ≡ record self.old { calls = bump self.old.calls; writes = bump self.old.writes } }
+        ensures { self.new ≡
+            record self.old { calls = bump self.old.calls; writes = bump self.old.writes } }
     {
         self.calls = self.calls.saturating_add(1);
         self.writes = self.writes.saturating_add(1);
     }
 
     pub fn count_sync(&mut self)
-        ensures { self.new ≡ record self.old { calls = bump self.old.calls; syncs = bump self.old.syncs } }
+        ensures { self.new ≡
+            record self.old { calls = bump self.old.calls; syncs = bump self.old.syncs } }
     {
         self.calls = self.calls.saturating_add(1);
         self.syncs = self.syncs.saturating_add(1);
