@@ -1,0 +1,12 @@
+pub mod Told
+pub mod Images
+pub mod Time
+pub mod Calls
+pub mod Replay
+pub mod Memory
+pub mod Laws
+pub mod Failing
+pub mod Stopping
+pub mod Picked
+pub mod Untold
+pub mod Makers
