@@ -3,7 +3,7 @@ ghost use Rattle.std.specs.Prelude.{◌≡◌, ◌+◌, ◌^◌, ◌<◌, ◌≤
 ghost use Rattle.q4_turn.specs.Views.{without_turn, extended};
 ghost use Rattle.q4_turn.specs.Steps.{IsExact};
 ghost use Rattle.q4_turn.specs.Passes.{MayAdd};
-ghost use Rattle.q4_turn.specs.Turns.{turn_id, view, number, mine, seen, IsFree, HasTurn, value_of};
+ghost use Rattle.q4_turn.specs.Turns.{view, number, parts, mine, seen, IsFree, HasTurn, value_of};
 ghost use Rattle.q4_turn.specs.Props.{IsFree-prop};
 ghost use base.Stored.{Coded-set};
 
@@ -58,6 +58,7 @@ fn leave_two<V: Office>(
 fn call<V: Office, R: Wait>(rt: &R, turn: &Turn<V>, pass: &mut Pass<V>, x: u64) -> Option<u64>
     requires { IsFree turn.now pass.old }
     ensures free { IsFree turn.now pass.new }
+    ensures parts { parts pass.new ≡ parts pass.old }
     ensures some { IfSome result (λ r. mine pass.new ≡ mine pass.old ++ V.entry (number pass.old) x r ∷ []) }
     ensures none { IfNone result (mine pass.new ≡ mine pass.old) }
 {
@@ -81,6 +82,7 @@ fn call_twice<V: Office, R: Wait>(
 ) -> Option<(u64, u64)>
     requires { IsFree turn.now pass.old }
     ensures free { IsFree turn.now pass.new }
+    ensures parts { parts pass.new ≡ parts pass.old }
     ensures some { IfSome result (λ r. mine pass.new ≡ mine pass.old ++ (V.entry (number pass.old) x r.0 ∷ V.entry (number pass.old) x r.1 ∷ [])) }
     ensures none { IfNone result (mine pass.new ≡ mine pass.old) }
 {
@@ -113,7 +115,7 @@ impl<'s, V: Office> Desk<'s, V> {
     }
 
     fn act<R: Wait>(&mut self, rt: &R, x: u64) -> Option<u64>
-        ensures turn { self.new.turn ≡ self.old.turn }
+        ensures same { (self.new.turn ≡ self.old.turn) × (parts self.new.pass ≡ parts self.old.pass) }
         ensures some { IfSome result (λ r. mine self.new.pass ≡ mine self.old.pass ++ V.entry (number self.old.pass) x r ∷ []) }
         ensures none { IfNone result (mine self.new.pass ≡ mine self.old.pass) }
     {
@@ -121,7 +123,7 @@ impl<'s, V: Office> Desk<'s, V> {
     }
 
     fn act_twice<R: Wait>(&mut self, rt: &R, x: u64) -> Option<(u64, u64)>
-        ensures turn { self.new.turn ≡ self.old.turn }
+        ensures same { (self.new.turn ≡ self.old.turn) × (parts self.new.pass ≡ parts self.old.pass) }
         ensures some { IfSome result (λ r. mine self.new.pass ≡ mine self.old.pass ++ (V.entry (number self.old.pass) x r.0 ∷ V.entry (number self.old.pass) x r.1 ∷ [])) }
         ensures none { IfNone result (mine self.new.pass ≡ mine self.old.pass) }
     {
@@ -140,7 +142,8 @@ impl<'s, V: Office> Desk<'s, V> {
 // Calls once, and then twice in one hold.
 fn serve<V: Office, R: Wait>(rt: &R, turn: &Turn<V>, pass: Pass<V>, x: u64) -> Pass<V>
     requires { IsFree turn.now pass }
-    ensures { IsFree turn.now result }
+    ensures free { IsFree turn.now result }
+    ensures parts { parts result ≡ parts pass }
 {
     let mut desk = Desk::new(turn, pass);
     let _ = desk.act(rt, x);
@@ -157,35 +160,67 @@ fn both<V: Office + Send, R: Threads + Wait + Sync>(
 ) -> Pass<V>
     requires { IsFree turn.now first × IsFree turn.now second }
     ensures free { IsFree turn.now result }
+    ensures parts { parts result ≡ parts first + parts second }
     ensures exact { IsExact V.mark (view result) }
 {
     let (first, second) = join(
         rt,
         move || -> Pass<V>
             requires { IsFree turn.now first }
-            ensures { IsFree turn.entry.now result }
+            ensures { IsFree turn.entry.now result × (parts result ≡ parts first) }
         { serve(rt, turn, first, 5) },
         move || -> Pass<V>
             requires { IsFree turn.now second }
-            ensures { IsFree turn.entry.now result }
+            ensures { IsFree turn.entry.now result × (parts result ≡ parts second) }
         { serve(rt, turn, second, 7) },
     );
     turn.join(first, second)
 }
 
-/// Adds what it is told, and counts its calls.
+/// Adds up what it is told.
 #[derive(Drop)]
 struct Adder {
-    calls: u64,
     sum: u64,
 }
 
 impl Kept for Adder {
-    ghost use Rattle.std.specs.Prelude.{◌≡◌, ◌+◌, length};
+    ghost use Rattle.std.specs.Prelude.{◌≡◌, ◌%◌, ◌^◌, sum_by};
 
     type Entry = (u64, u64, u64);
 
-    ghost stands = { λ c es. c.calls + 1 ≡ length es };
+    ghost stands = { λ c es. c.sum ≡ sum_by (λ e. e.1) es % 2 ^ 64 };
 
     ghost mark = { λ e. e.0 };
+}
+
+impl Office for Adder {
+    ghost use Rattle.std.specs.Prelude.{refl};
+
+    ghost entry = { λ caller x reply. (caller, x, reply) };
+
+    fn act(&mut self, x: u64) -> u64 {
+        self.sum = self.sum.wrapping_add(x);
+        self.sum
+    }
+
+    ghost marked = { λ caller x reply. refl };
+}
+
+// Two desks on two threads, from the making of the turn to its end.
+fn add_by_two<R: Threads + Wait + Sync>(rt: &R, alloc: Global) -> Option<Adder> {
+    let (turn, mut first) = Turn::new(alloc, Adder { sum: 0 }, 5).ok()?;
+    let second = turn.split(rt, alloc, &mut first, 2).ok()?;
+    let pass = both(rt, &turn, first, second);
+    let (value, _pass) = turn.close(pass);
+    Some(value)
+}
+
+#[test]
+fn desks_on_two_threads_share_a_value(rt: HostRuntime) -> Result<(), Fail> {
+    let Some(value) = add_by_two(&rt, rt.alloc()) else {
+        panic!(rt; "no memory")
+    };
+    // Three times 5, and three times 7.
+    assert!(rt; value.sum == 36);
+    Ok(())
 }

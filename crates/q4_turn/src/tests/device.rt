@@ -2,7 +2,7 @@
 ghost use Rattle.std.specs.Prelude.{◌≡◌, ◌+◌, ◌^◌, ◌<◌, ◌≤◌, ◌++◌, ◌∷◌, [], ℕ, List, length, IsTrue};
 ghost use Rattle.q4_turn.specs.Views.{without_turn, extended};
 ghost use Rattle.q4_turn.specs.Passes.{MayAdd};
-ghost use Rattle.q4_turn.specs.Turns.{view, number, mine, seen, IsFree, HasTurn, value_of};
+ghost use Rattle.q4_turn.specs.Turns.{view, number, parts, mine, seen, IsFree, HasTurn, value_of};
 
 use crate::kept::Kept;
 use crate::turn::{Held, Pass, Turn};
@@ -63,6 +63,7 @@ fn append<D: Device, R: Wait>(
 ) -> bool
     requires { IsFree turn.now pass.old }
     ensures free { IsFree turn.now pass.new }
+    ensures parts { parts pass.new ≡ parts pass.old }
     ensures mine { IsTrue result → mine pass.new ≡ mine pass.old ++ record { caller = number pass.old; what = what } ∷ [] }
 {
     let mut held = turn.enter(rt, pass);
@@ -75,4 +76,40 @@ fn append<D: Device, R: Wait>(
         turn.leave(pass, held, 0);
         false
     }
+}
+
+/// Counts its lines.
+#[derive(Drop)]
+struct Tape {
+    lines: u64,
+}
+
+impl Device for Tape {
+    ghost use Rattle.std.specs.Prelude.{◌≡◌, ◌%◌, ◌^◌};
+
+    ghost has = { λ d n. d.lines ≡ n % 2 ^ 64 };
+
+    fn append(&mut self) {
+        self.lines = self.lines.wrapping_add(1);
+    }
+}
+
+// Appends so many lines.
+fn write<R: Wait>(rt: &R, alloc: Global, lines: u64) -> Option<Journal<Tape>> {
+    let device = Tape { lines: 1 };
+    let (turn, mut pass) = Turn::new(alloc, Journal { device }, 1).ok()?;
+    for what in 0..lines {
+        append(rt, &turn, &mut pass, what);
+    }
+    let (journal, _pass) = turn.close(pass);
+    Some(journal)
+}
+
+#[test]
+fn a_journal_has_a_line_for_each_entry(rt: HostRuntime) -> Result<(), Fail> {
+    let Some(journal) = write(&rt, rt.alloc(), 3) else {
+        panic!(rt; "no memory")
+    };
+    assert!(rt; journal.device.lines == 4);
+    Ok(())
 }
