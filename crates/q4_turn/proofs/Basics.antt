@@ -1,9 +1,9 @@
 -- Totals over views, and lists that begin with others.
 use Rattle.std.proofs.Common.{◌≡◌, ◌≢◌, ℕ, zero, suc, ◌+◌, ◌<◌, ◌≤◌, eq-eqb, ne_eqb, Bool, true, false, cond, List, [], ◌∷◌, ◌++◌, length, get_or, set, refl, sym, ap, ap₂, ◌∙◌, subst, ⊎_elim, arith, length-append, append_assoc, append-nil}
-use Rattle.std.specs.Prelude.{Some}
+use Rattle.std.specs.Prelude.{Option, Some}
 use mathlib.Core.Option.{some, some-ne-none, some-injective}
 use mathlib.Core.Logic.{dite}
-use native.Mathlib.Decide.{dec_lt}
+use native.Mathlib.Decide.{ℕ_discrete, dec_lt}
 use lib.ListN.{get_elem?}
 use Rattle.atomic_table.specs.Table.{rest}
 use Rattle.atomic_table.proofs.Lists.{at_set, at_snoc}
@@ -14,6 +14,7 @@ use Rattle.std.proofs.lemmas.List.Elements.{filter-append}
 use Rattle.q4_turn.specs.declared.view.JoinedPass.{JoinedPass}
 use Rattle.q4_turn.specs.Lists.{total, Every, StartsWith, one_if, one_at, marked, longer, shorter}
 use Rattle.q4_turn.specs.Views.{times}
+use Rattle.q4_turn.specs.Rules.{IsClaim}
 
 module _ {A : Type 0} where
   pub total_set : (f : A → ℕ) (l : List A) (i : ℕ) (a b : A) → get_elem? l i ≡ some a → total f (set l i b) + f a ≡ total f l + f b
@@ -139,6 +140,10 @@ module _ {A : Type 0} where
   Every-weaker P Q f [] h = tt
   Every-weaker P Q f (x ∷ xs) h = (f x h.0, Every-weaker P Q f xs h.1)
 
+  pub Every-after : (P : A → Type 0) (l m : List A) → Every P (l ++ m) → Every P m
+  Every-after P [] m h = h
+  Every-after P (x ∷ xs) m h = Every-after P xs m h.1
+
   pub Every-append : (P : A → Type 0) (l m : List A) → Every P l → Every P m → Every P (l ++ m)
   Every-append P [] m h k = k
   Every-append P (x ∷ xs) m h k = (h.0, Every-append P xs m h.1 k)
@@ -193,6 +198,34 @@ module _ {E : Type 0} (mark : E → ℕ) where
   nothing_more l [] n e = refl
   nothing_more l (x ∷ xs) n e = let a = ap (λ (k : List E). length k) e in absurd (omega (arith, length-append l ((x ∷ xs) ++ n), length-append (x ∷ xs) n))
 
+  nothing_after : (l m : List E) → l ++ m ≡ l → m ≡ []
+  nothing_after l m e = nothing_more l m [] (ap (λ (k : List E). l ++ k) (append-nil m) ∙ e)
+
+  -- what follows a beginning that has all entries with this number has none of them
+  pub marked_after : (n : ℕ) (whole part es : List E) (begins : StartsWith whole part) → marked mark n part ≡ es → marked mark n whole ≡ es → marked mark n begins.0 ≡ []
+  marked_after n whole part es begins h k =
+      let m = λ (l : List E). marked mark n l in
+      let p : m whole ≡ es ++ m begins.0 = ap m begins.1 ∙ (marked-append mark n part begins.0 ∙ ap (λ (l : List E). l ++ m begins.0) h) in
+      nothing_after es (m begins.0) (sym p ∙ k)
+
+  mark_there : (e : E) (es : List E) (n : ℕ) → mark e ≡ n → marked mark n (e ∷ es) ≡ [] → ⊥
+  mark_there e es n is none =
+      let here : marked mark n (e ∷ es) ≡ e ∷ marked mark n es = ap (λ (b : Bool). cond b (e ∷ marked mark n es) (marked mark n es)) (eq-eqb (mark e) n is) in
+      let both : e ∷ marked mark n es ≡ [] = sym here ∙ none in
+      cc
+
+  mark_nowhere : (e : E) (es : List E) (os : List (JoinedPass E)) → Every (λ o. marked mark o.number (e ∷ es) ≡ []) os → times (mark e) os ≡ 0
+  mark_nowhere e es [] h = refl
+  mark_nowhere e es (o ∷ os) h =
+      let r = mark_nowhere e es os h.1 in
+      let z : one_if (o.number == mark e) ≡ 0 = dite (ℕ_discrete o.number (mark e)) (λ is. absurd (mark_there e es o.number (sym is) h.0)) (λ ne. ap one_if (ne_eqb o.number (mark e) ne)) in
+      omega arith
+
+  -- entries that are all of these numbers, and none of which is, are none
+  pub none_of_these : (os : List (JoinedPass E)) (es : List E) → Every (λ o. marked mark o.number es ≡ []) os → Every (λ e. 0 < times (mark e) os) es → es ≡ []
+  none_of_these os [] h k = refl
+  none_of_these os (e ∷ es) h k = let z = mark_nowhere e es os h in let p = k.0 in absurd (omega arith)
+
   -- what stands between two beginnings that have the same entries with this number has them too
   pub marked_between : (n : ℕ) (low mid high es : List E) → StartsWith mid low → StartsWith high mid → marked mark n low ≡ es → marked mark n high ≡ es → marked mark n mid ≡ es
   marked_between n low mid high es a b h k =
@@ -213,3 +246,18 @@ Every-apart P Q n f (o ∷ os) none h =
 -- the one slot that was taken, as an exchange asks for it
 pub the_first : {S : Type 0} (l : List (ℕ × S)) (x : ℕ × S) → l ≡ x ∷ [] → l ≡ x ∷ rest l
 the_first l x e = e ∙ ap (λ r. x ∷ r) (sym (ap (λ r. rest r) e))
+
+-- what follows a beginning has no entries of the numbers whose lists are exact in it and in the whole
+pub after_seen : {E : Type 0} (mark : E → ℕ) (seen history : List E) (os : List (JoinedPass E)) (begins : StartsWith history seen) → Every (IsClaim mark seen history) os → Every (λ o. marked mark o.number begins.0 ≡ []) os
+after_seen mark seen history os begins h = Every-weaker (IsClaim mark seen history) (λ o. marked mark o.number begins.0 ≡ []) (λ o c. marked_after mark o.number history seen o.mine begins c.0 c.1) os h
+
+-- what an exchange found is what the slot had
+pub slot_had : {S : Type 0} (l m n : List (ℕ × Option S)) (x : Option S) (y z : S) → l ≡ (0, x) ∷ m → l ≡ (0, Some y) ∷ n → x ≡ Some z → z ≡ y
+slot_had {S} l m n x y z found had is =
+    let both : (0, x) ∷ m ≡ (0, Some y) ∷ n = sym found ∙ had in
+    let one : ℕ × Option S = (0, x) in
+    let other : ℕ × Option S = (0, Some y) in
+    let pair : one ≡ other = cc in
+    let same : x ≡ Some y = ap (λ (p : ℕ × Option S). p.1) pair in
+    let somes : Some z ≡ Some y = sym is ∙ same in
+    cc

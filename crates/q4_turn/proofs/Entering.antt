@@ -1,5 +1,5 @@
 -- The steps of a hold keep the rule: a ticket is drawn, the turn is looked for, the history is measured, the turn is ended.
-use Rattle.std.proofs.Common.{◌≡◌, ◌≢◌, ℕ, zero, suc, ◌+◌, ◌%◌, ◌^◌, ◌<◌, ◌≤◌, eqb, Bool, true, false, true≢false, cond, List, [], ◌∷◌, length, get_or, set, refl, sym, ap, ap₂, ◌∙◌, subst, inl, inr, ⊎_elim, arith}
+use Rattle.std.proofs.Common.{◌≡◌, ◌≢◌, ℕ, zero, suc, ◌+◌, ◌%◌, ◌^◌, ◌<◌, ◌≤◌, eqb, Bool, true, false, true≢false, cond, List, [], ◌∷◌, ◌++◌, length, get_or, set, refl, sym, ap, ap₂, ◌∙◌, subst, inl, inr, ⊎_elim, arith}
 use Rattle.std.specs.Prelude.{Option, Some, None}
 use mathlib.Core.Logic.{dite}
 use mathlib.Core.Option.{some, none, some-ne-none, some-injective}
@@ -10,11 +10,12 @@ use prog.Atomic.{either}
 use Rattle.atomic_table.specs.Table.{State, Me, step, keeps, takes, gives, stepped, rest, put_back, carried_after, Valid, Allows, Act}
 use Rattle.atomic_table.proofs.Lists.{set_again, exchanged}
 use Rattle.q4_turn.specs.declared.view.View.{View}
-use Rattle.q4_turn.specs.Lists.{total, Every, one_if, one_at, marked}
+use Rattle.q4_turn.specs.Lists.{StartsWith, total, Every, one_if, one_at, marked}
 use Rattle.q4_turn.specs.Views.{times, claims, claimed, numbered, ticketed, held, live_parts, founding_view, founding_taken, with_ticket, with_turn, without_turn}
 use Rattle.q4_turn.specs.Rules.{IsClaim, Fits, Slot, IsTurn, IsFounding, Keeps}
-use Rattle.q4_turn.specs.Steps.{IsExact, TellsTicket, TellsLook, TellsLength, TellsEnd}
-use Rattle.q4_turn.proofs.Basics.{set_same, total_set, total_kept, total_one, total_two, total_some, each_set, Every-weaker, starts_self, one_same, one_other}
+use Rattle.q4_turn.specs.Passes.{Entered}
+use Rattle.q4_turn.specs.Steps.{AreOthers, IsExact, TellsTicket, TellsLook, TellsLength, TellsEnd}
+use Rattle.q4_turn.proofs.Basics.{after_seen, set_same, total_set, total_kept, total_one, total_two, total_some, each_set, Every-weaker, starts_self, one_same, one_other}
 
 module _ {V E : Type 0} (stands : V → List E → Type 0) (mark : E → ℕ) (all : ℕ) where
   abbrev St : Type 0
@@ -205,7 +206,7 @@ module _ {V E : Type 0} (stands : V → List E → Type 0) (mark : E → ℕ) (a
             (λ j u _ e. r.each j u e)
             record { founded = f.founded; holding = λ _. (served, refl, alive); closing = λ h. let c = f.closing h in (c.0, refl, c.2); knows = λ _. record { part = kn.part; seen = starts_self r.history; unmerged = kn.unmerged; exact = exact } }),
         (
-          (λ _. (y, r.history, ap (λ (l : List (ℕ × Option V)). (0, Some y) ∷ l) bare, refl, kn.seen, home.1.2, exact_in s r id v w at alive refl exact)),
+          (λ _. (y, r.history, ap (λ (l : List (ℕ × Option V)). (0, Some y) ∷ l) bare, refl, kn.seen, after_seen mark v.seen r.history (claims v) kn.seen kn.exact, home.1.2, exact_in s r id v w at alive refl exact)),
           (λ miss. absurd (miss (has ∙ ap (λ (n : ℕ). Some n) hit))),
         ),
       ))
@@ -265,3 +266,18 @@ module _ {V E : Type 0} (stands : V → List E → Type 0) (mark : E → ℕ) (a
             record { founded = f.founded; holding = λ h. absurd (true≢false (sym h)); closing = f.closing; knows = λ h. let kn = f.knows h in record { part = kn.part; seen = kn.seen; unmerged = kn.unmerged; exact = kn.exact } }),
         (refl, ap (λ (c : List (ℕ × Option V)). rest c) has),
       )
+
+  -- what `enter` says, once a ticket was drawn and the turn was taken
+  pub all_entered : (v m w : View E) (t : ℕ) (es : List E) (value y : V) → value ≡ y → m ≡ with_ticket v t → w ≡ with_turn m es → (begins : StartsWith es m.seen) → AreOthers mark m begins.0 → stands y es → IsExact mark w
+      → Entered stands mark v value w
+  all_entered v m w t es value y here drawn is begins others fits exact =
+      let now : w ≡ with_turn (with_ticket v t) es = is ∙ ap (λ (x : View E). with_turn x es) drawn in
+      let seen : w.seen ≡ es = ap (λ (x : View E). x.seen) now in
+      let ticket : w.ticket ≡ Some t = ap (λ (x : View E). x.ticket) now in
+      record {
+        same = now ∙ ap₂ (λ (n : Option ℕ) (l : List E). record v { holding = true; ticket = n; holds = v.holds + 1; seen = l }) (sym ticket) (sym seen);
+        seen = (begins.0, seen ∙ (begins.1 ∙ ap (λ (x : View E). x.seen ++ begins.0) drawn));
+        others = subst (λ (x : View E). AreOthers mark x begins.0) drawn others;
+        for_seen = subst (λ (z : V). stands z w.seen) (sym here) (subst (stands y) (sym seen) fits);
+        exact = exact;
+      }

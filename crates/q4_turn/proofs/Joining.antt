@@ -1,5 +1,5 @@
 -- A join, the close and the end keep the rule.
-use Rattle.std.proofs.Common.{◌≡◌, ◌≢◌, ℕ, ◌+◌, ◌<◌, Bool, true, false, true≢false, cond, List, [], ◌∷◌, ◌++◌, get_or, set, refl, sym, ap, ◌∙◌, subst, inr, ⊎_elim, arith}
+use Rattle.std.proofs.Common.{append-nil, ◌≡◌, ◌≢◌, ℕ, ◌+◌, ◌<◌, Bool, true, false, true≢false, cond, List, [], ◌∷◌, ◌++◌, get_or, set, refl, sym, ap, ◌∙◌, subst, inr, ⊎_elim, arith}
 use Rattle.std.specs.Prelude.{Option, Some, None}
 use mathlib.Core.Option.{some, none, some-ne-none, some-injective}
 use mathlib.Core.Option as maybe
@@ -7,15 +7,15 @@ use lib.ListN.{get_elem?}
 use Rattle.atomic_table.specs.Table.{State, Me, step, keeps, Allows}
 use Rattle.q4_turn.specs.declared.view.View.{View}
 use Rattle.q4_turn.specs.declared.view.JoinedPass.{JoinedPass}
-use Rattle.q4_turn.specs.Lists.{longer, total, Every, StartsWith, one_if, one_at}
+use Rattle.q4_turn.specs.Lists.{marked, longer, total, Every, StartsWith, one_if, one_at}
 use Rattle.q4_turn.specs.Views.{uncompared, spent_view, closed_view, retired, times, claims, claimed, numbered, ticketed, held, live_parts}
 use Rattle.q4_turn.specs.Rules.{IsClaim, Fits, IsTurn, Keeps}
 use Rattle.q4_turn.specs.Steps.{IsExact, TellsClose}
 use Rattle.q4_turn.specs.Passes.{Ended}
 use Rattle.atomic_table.specs.Table.{Joins, Splits, Seen, Final}
 use Rattle.atomic_table.proofs.Lists.{set_else}
-use Rattle.q4_turn.proofs.Basics.{starts_shorter, total_only, starts_longer, longer_first, longer_second, marked_between, each_gone, times-append, total_split, each_split, set_same, total_set, total_kept, total_two, total_some, Every-weaker, Every-append, starts_self}
-use Rattle.q4_turn.proofs.Entering.{exact_in, restep, is_founded, slot_kept}
+use Rattle.q4_turn.proofs.Basics.{after_seen, none_of_these, Every-after, starts_shorter, total_only, starts_longer, longer_first, longer_second, marked_between, each_gone, times-append, total_split, each_split, set_same, total_set, total_kept, total_two, total_some, Every-weaker, Every-append}
+use Rattle.q4_turn.proofs.Entering.{restep, once_in, is_founded, slot_kept}
 
 module _ {V E : Type 0} (stands : V → List E → Type 0) (mark : E → ℕ) (all : ℕ) where
   abbrev St : Type 0
@@ -104,13 +104,18 @@ module _ {V E : Type 0} (stands : V → List E → Type 0) (mark : E → ℕ) (a
   closes slots id me alive whole s k _ at _ =
       let r = is_founded stands mark all s id me.0 at alive k in
       let v : View E = me.0 in
-      let w : View E = closed_view v r.history in
+      let w : View E = closed_view v in
       let f = r.each id v at in
       let kn = f.knows alive in
       let sm = r.small in
-      let exact : Every (IsClaim mark r.history r.history) (claims v) = Every-weaker (IsClaim mark v.seen r.history) (IsClaim mark r.history r.history) (λ o h. (h.1, h.1)) (claims v) kn.exact in
       let only : (n : ℕ) → total (claimed n) s.views ≡ times n (claims v) = λ n.
-      total_only (claimed n) s.views id v at (λ j u apart e. gone_none n u (λ theirs. others_gone s r id j v u at e apart alive whole theirs)) ∙ ap (λ (b : Bool). cond b (times n (claims v)) 0) alive in (
+      total_only (claimed n) s.views id v at (λ j u apart e. gone_none n u (λ theirs. others_gone s r id j v u at e apart alive whole theirs)) ∙ ap (λ (b : Bool). cond b (times n (claims v)) 0) alive in
+      let known : Every (λ e. 0 < times (mark e) (claims v)) r.history =
+      Every-weaker (λ e. 0 < total (claimed (mark e)) s.views) (λ e. 0 < times (mark e) (claims v)) (λ e h. subst (λ (n : ℕ). 0 < n) (only (mark e)) h) r.history r.added in
+      let others : Every (λ o. marked mark o.number kn.seen.0 ≡ []) (claims v) = after_seen mark v.seen r.history (claims v) kn.seen kn.exact in
+      let more : Every (λ e. 0 < times (mark e) (claims v)) kn.seen.0 = Every-after (λ e. 0 < times (mark e) (claims v)) v.seen kn.seen.0 (subst (Every (λ e. 0 < times (mark e) (claims v))) kn.seen.1 known) in
+      let none_more : kn.seen.0 ≡ [] = none_of_these mark (claims v) kn.seen.0 others more in
+      let all_seen : v.seen ≡ r.history = sym (kn.seen.1 ∙ (ap (λ (l : List E). v.seen ++ l) none_more ∙ append-nil v.seen)) in (
         w,
         keeps,
         tt,
@@ -122,19 +127,15 @@ module _ {V E : Type 0} (stands : V → List E → Type 0) (mark : E → ℕ) (a
             (λ j u _ e. r.each j u e)
             record {
               founded = f.founded;
-              holding = λ h. let t = f.holding h in (t.0, refl, t.2);
-              closing = λ _. (whole, refl, alive);
-              knows = λ _. record { part = kn.part; seen = starts_self r.history; unmerged = kn.unmerged; exact = exact };
+              holding = f.holding;
+              closing = λ _. (whole, all_seen, alive);
+              knows = λ _. record { part = kn.part; seen = kn.seen; unmerged = kn.unmerged; exact = kn.exact };
             }),
         (
           refl,
-          (
-            r.history,
-            refl,
-            kn.seen,
-            exact_in stands mark all s r id v w at alive refl exact,
-            Every-weaker (λ e. 0 < total (claimed (mark e)) s.views) (λ e. 0 < times (mark e) (claims v)) (λ e h. subst (λ (n : ℕ). 0 < n) (only (mark e)) h) r.history r.added,
-          ),
+          refl,
+          record { lists = Every-weaker (IsClaim mark v.seen r.history) (λ o. marked mark o.number v.seen ≡ o.mine) (λ o h. h.0) (claims v) kn.exact; once = once_in stands mark all s r id v at alive },
+          subst (Every (λ e. 0 < times (mark e) (claims v))) (sym all_seen) known,
         ),
       )
     where
@@ -148,10 +149,10 @@ module _ {V E : Type 0} (stands : V → List E → Type 0) (mark : E → ℕ) (a
   -- the end: the value is at home, and stands for all that the closing view has seen
   pub ending : (id : ℕ) (v : View E) (xs : List (Option V)) (ws : List ℕ) → v.live ≡ true → v.closing ≡ true → v.holding ≡ false → Final (Seen K id v) ws xs
       → (y : V) × (get_elem? xs 0 ≡ some (Some y)) × stands y v.seen
-  ending id v xs ws alive TellsEnd free final =
+  ending id v xs ws alive ended free final =
       let s = final.0 in
       let r = is_founded stands mark all s id v final.1.1 alive final.1.0 in
-      let c = (r.each id v final.1.1).closing TellsEnd in
+      let c = (r.each id v final.1.1).closing ended in
       ⊎_elim
       (λ (h : (total held s.views ≡ 0) × ((y : V) × (s.homes ≡ some (Some y) ∷ []) × stands y r.history)).
       (h.1.0, final.4 0 (Some h.1.0) (ap (λ (l : List (maybe.Option (Option V))). get_elem? l 0) h.1.1), subst (stands h.1.0) (sym c.1) h.1.2))
@@ -195,16 +196,15 @@ module _ {V E : Type 0} (stands : V → List E → Type 0) (mark : E → ℕ) (a
       }
 
   -- what `close` says of that copy
-  pub all_ended : (v v' v'' w : View E) (es : List E) (value y : V) → value ≡ y → v' ≡ closed_view v es → v'' ≡ v' → w ≡ retired v' → StartsWith es v.seen → IsExact mark v' → Every (λ e. 0 < times (mark e) (claims v)) es → stands y v''.seen
+  pub all_ended : (v v' v'' w : View E) (value y : V) → value ≡ y → v' ≡ closed_view v → v'' ≡ v' → w ≡ retired v' → IsExact mark v → Every (λ e. 0 < times (mark e) (claims v)) v.seen → stands y v''.seen
       → Ended stands mark v value w
-  all_ended v v' v'' w es value y here is same left begins exact known fits =
-      let now : w ≡ retired (closed_view v es) = left ∙ ap (λ (x : View E). retired x) is in
-      let seen : w.seen ≡ es = ap (λ (x : View E). x.seen) now in
+  all_ended v v' v'' w value y here is same left exact known fits =
+      let now : w ≡ retired v = left ∙ ap (λ (x : View E). retired x) is in
+      let seen : w.seen ≡ v.seen = ap (λ (x : View E). x.seen) now in
       record {
-        same = now ∙ ap (λ (x : List E). retired (closed_view v x)) (sym seen);
-        seen = subst (λ (x : List E). StartsWith x v.seen) (sym seen) begins;
+        same = now;
         for_all = subst (λ (z : V). stands z w.seen) (sym here) (subst (stands y) (ap (λ (x : View E). x.seen) (same ∙ is) ∙ sym seen) fits);
-        exact = let x = subst (IsExact mark) is exact in subst (IsExact mark) (sym now) record { lists = x.lists; once = x.once };
+        exact = subst (IsExact mark) (sym now) record { lists = exact.lists; once = exact.once };
         known = subst (λ (x : View E). Every (λ e. 0 < times (mark e) (claims x)) x.seen) (sym now) known;
       }
 

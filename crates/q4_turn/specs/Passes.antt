@@ -1,12 +1,12 @@
 -- What contracts say of a pass: where it stands, and what a call makes of its view.
-use Rattle.std.specs.Prelude.{◌≡◌, ℕ, ◌+◌, ◌<◌, ◌≤◌, true, false, List, [], ◌∷◌, ◌++◌, length, Option, Some, None}
+use Rattle.std.specs.Prelude.{◌≡◌, ℕ, ◌+◌, ◌^◌, ◌<◌, ◌≤◌, true, false, List, [], ◌∷◌, ◌++◌, length, Option, Some, None}
 use Rattle.atomic_table.specs.declared.shared.Seat.{Seat}
 use Rattle.atomic_table.specs.Seated.{TableId}
 use Rattle.atomic_table.specs.Table.{Me}
 use Rattle.q4_turn.specs.declared.view.View.{View}
 use Rattle.q4_turn.specs.Lists.{Every, StartsWith}
-use Rattle.q4_turn.specs.Views.{claims, times, split_off, closed_view, retired}
-use Rattle.q4_turn.specs.Steps.{IsExact}
+use Rattle.q4_turn.specs.Views.{claims, times, split_off, retired}
+use Rattle.q4_turn.specs.Steps.{IsExact, AreOthers}
 
 module _ {V E : Type 0} where
   abbrev pub seat_view : Seat (Option V) (View E) → View E
@@ -50,10 +50,11 @@ module _ {V E : Type 0} where
     pub in_hand : m.0.in_hand ≡ Some n
     pub slots : m.1 ≡ []
 
-  -- the turn is held: `seen` has grown to the whole history, and the value stands for it. `holds` is one more, and nothing else has changed
+  -- the turn is held: `seen` has grown to the whole history, by entries of others, and the value stands for it. `holds` is one more, and nothing else has changed
   pub record Entered (stands : V → List E → Type 0) (mark : E → ℕ) (v : View E) (value : V) (w : View E) : Type 0 where
     pub same : w ≡ record v { holding = true; ticket = w.ticket; holds = v.holds + 1; seen = w.seen }
     pub seen : StartsWith w.seen v.seen
+    pub others : AreOthers mark v seen.0
     pub for_seen : stands value w.seen
     pub exact : IsExact mark w
 
@@ -64,15 +65,15 @@ module _ {V E : Type 0} where
     pub mine : Every (λ e. mark e ≡ v.number) es
     pub for_more : stands value (v.seen ++ es)
 
-  -- the end: `seen` has grown to the whole history, for which the value stands, and each entry has a number that the pass answers for. Nothing else has changed, and the pass is no pass of a turn any more
+  -- the end: the value stands for `seen`, which is the whole history, since whoever added to it was joined into this pass. Each entry has a number that the pass answers for. The pass is none of a turn any more, and is else as it was
   pub record Ended (stands : V → List E → Type 0) (mark : E → ℕ) (v : View E) (value : V) (w : View E) : Type 0 where
-    pub same : w ≡ retired (closed_view v w.seen)
-    pub seen : StartsWith w.seen v.seen
+    pub same : w ≡ retired v
     pub for_all : stands value w.seen
     pub exact : IsExact mark w
     pub known : Every (λ e. 0 < times (mark e) (claims w)) w.seen
 
--- a new pass of k parts, with a number that the old one doesn't answer for
+-- a new pass of k parts, with a number below 2^62 that the old one doesn't answer for
 pub record IsSplitOff {E : Type 0} (k : ℕ) (v w : View E) : Type 0 where
   pub same : w ≡ split_off k w.number v
   pub new : times w.number (claims v) ≡ 0
+  pub few : w.number < 2 ^ 62

@@ -13,6 +13,10 @@ pub record IsExact {E : Type 0} (mark : E → ℕ) (v : View E) : Type 0 where
   pub lists : Every (λ o. marked mark o.number v.seen ≡ o.mine) (claims v)
   pub once : (n : ℕ) → times n (claims v) ≤ 1
 
+-- these entries have no number that the view answers for
+abbrev pub AreOthers : {E : Type 0} → (E → ℕ) → View E → List E → Type 0
+AreOthers mark v es = Every (λ o. marked mark o.number es ≡ []) (claims v)
+
 module _ {V E : Type 0} where
   -- founding, first: the empty slot was taken
   abbrev pub TellsOpening : Step (Option V) → At V E → ℕ → At V E → Type 0
@@ -27,13 +31,13 @@ module _ {V E : Type 0} where
   TellsTicket st m r m' = (r ≡ st.first → m'.0 ≡ with_ticket m.0 r) × (r ≢ st.first → m'.0 ≡ m.0) × (m'.1 ≡ m.1)
 
   -- the slot is taken, and its value stands for the history, which is then seen
-  abbrev pub Takes : (V → List E → Type 0) → (E → ℕ) → At V E → At V E → Type 0
-  Takes stands mark m m' =
-      (y : V) × (es : List E) × (m'.1 ≡ (0, Some y) ∷ []) × (m'.0 ≡ with_turn m.0 es) × StartsWith es m.0.seen × stands y es × IsExact mark m'.0
+  abbrev pub Takes : (V → List E → Type 0) → (E → ℕ) → View E → At V E → Type 0
+  Takes stands mark v m' =
+      (y : V) × (es : List E) × (m'.1 ≡ (0, Some y) ∷ []) × (m'.0 ≡ with_turn v es) × (begins : StartsWith es v.seen) × AreOthers mark v begins.0 × stands y es × IsExact mark m'.0
 
   -- look at serving: where it is the ticket, the slot is taken
   abbrev pub TellsLook : (V → List E → Type 0) → (E → ℕ) → Step (Option V) → At V E → ℕ → At V E → Type 0
-  TellsLook stands mark st m r m' = (m.0.ticket ≡ Some r → Takes stands mark m m') × (m.0.ticket ≢ Some r → (m'.0 ≡ m.0) × (m'.1 ≡ m.1))
+  TellsLook stands mark st m r m' = (m.0.ticket ≡ Some r → Takes stands mark m.0 m') × (m.0.ticket ≢ Some r → (m'.0 ≡ m.0) × (m'.1 ≡ m.1))
 
   -- measure, while the turn is held: the length of the history
   abbrev pub TellsLength : Step (Option V) → At V E → ℕ → At V E → Type 0
@@ -59,7 +63,6 @@ module _ {V E : Type 0} where
   abbrev pub TellsCompared : (E → ℕ) → Step (Option V) → At V E → ℕ → At V E → Type 0
   TellsCompared mark st m r m' = (m'.0 ≡ compared m.0) × (m'.1 ≡ m.1) × IsExact mark m'.0 × (length m.0.unmerged ≤ length m.0.seen → StartsWith m.0.seen m.0.unmerged)
 
-  -- close, where all parts are together: the whole history is seen, and each entry has a number that this view answers for
+  -- close, where all parts are together: the pass has seen the whole history, since each entry has a number that it answers for
   abbrev pub TellsClose : (E → ℕ) → Step (Option V) → At V E → ℕ → At V E → Type 0
-  TellsClose mark st m r m' =
-      (m'.1 ≡ m.1) × ((es : List E) × (m'.0 ≡ closed_view m.0 es) × StartsWith es m.0.seen × IsExact mark m'.0 × Every (λ e. 0 < times (mark e) (claims m.0)) es)
+  TellsClose mark st m r m' = (m'.1 ≡ m.1) × (m'.0 ≡ closed_view m.0) × IsExact mark m.0 × Every (λ e. 0 < times (mark e) (claims m.0)) m.0.seen

@@ -97,9 +97,9 @@ module _ {E : Type 0} where
   abbrev pub spent_view : View E
   spent_view = record { founding = false; live = false; holding = false; closing = false; ticket = None; in_hand = None; number = 0; parts = 0; holds = 0; seen = []; mine = []; unmerged = []; olds = [] }
 
-  -- all parts are together, and this is the whole history
-  abbrev pub closed_view : View E → List E → View E
-  closed_view v es = record v { closing = true; seen = es }
+  -- all parts are together, and the history has ended
+  abbrev pub closed_view : View E → View E
+  closed_view v = record v { closing = true }
 
   -- what is kept of a view after the end
   abbrev pub retired : View E → View E

@@ -13,7 +13,7 @@ use atomic_table::Seat;
 impl<V: Kept> Turn<V> {
     /// Takes the turn apart. The pass has all parts, so every other one was joined into it.
     ///
-    /// The value stands for the whole history, which is then the `seen` of the pass that comes back. That pass is none of a turn any more.
+    /// The value stands for the pass's `seen`, which is the whole history. The pass comes back as it was, but is none of a turn any more.
     pub fn close(self, pass: Pass<V>) -> (V, Pass<V>)
         requires free { IsFree self pass }
         requires parts { parts pass ≡ turn_parts self }
@@ -23,7 +23,7 @@ impl<V: Kept> Turn<V> {
         (value, Pass { seat })
     }
 
-    // Sees the whole history, keeps a copy of the view, and takes the table apart.
+    // Ends the history, keeps a copy of the view, and takes the table apart.
     fn close_seat(
         self,
         mut seat: Seat<Option<V>, View<V::Entry>>,

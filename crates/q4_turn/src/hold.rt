@@ -67,7 +67,7 @@ impl<V: Kept> Turn<V> {
     fn wait_for<R: Wait>(&self, rt: &R, pass: &mut Pass<V>, ticket: u64)
         requires { Waits self.now.table.shared.table_id ticket pass.old.seat }
         ensures turn { pass.new.seat.table_id ≡ self.now.table.shared.table_id }
-        ensures takes { Takes V.stands V.mark pass.old.seat.me pass.new.seat.me }
+        ensures takes { Takes V.stands V.mark (view pass.old) pass.new.seat.me }
     {
         let words = &self.table.shared;
         let mut looks = 0u8;

@@ -1,5 +1,5 @@
 //! How passes are split and joined.
-ghost use Rattle.std.specs.Prelude.{◌≡◌, ◌<◌, IfOk, IsOk, []};
+ghost use Rattle.std.specs.Prelude.{◌≡◌, ◌^◌, ◌<◌, IfOk, IsOk, []};
 ghost use Rattle.q4_turn.specs.Lists.{StartsWith};
 ghost use Rattle.q4_turn.specs.Views.{claims, times, with_number, after_split, split_by_hand, joined};
 ghost use Rattle.q4_turn.specs.Steps.{IsExact};
@@ -24,7 +24,7 @@ impl<V: Kept> Turn<V> {
     pub fn split<R: Wait>(
         &self,
         rt: &R,
-        _alloc: Global,
+        alloc: Global,
         pass: &mut Pass<V>,
         parts: u64,
     ) -> Result<Pass<V>, NoMemory>
@@ -44,6 +44,7 @@ impl<V: Kept> Turn<V> {
         ensures turn { pass.new.seat.table_id ≡ self.now.table.shared.table_id }
         ensures view { pass.new.seat.me ≡ (with_number (view pass.old) result, []) }
         ensures new { times result (claims (view pass.old)) ≡ 0 }
+        ensures few { result < 2 ^ 62 }
     {
         let words = &self.table.shared;
         for _ in rt.forever() {
