@@ -3,7 +3,7 @@ ghost use Rattle.std.specs.Prelude.{◌≡◌, ◌+◌, ◌^◌, ◌≤◌, List
 ghost use Rattle.q4_turn.specs.Views.{with_ticket, without_turn, extended};
 ghost use Rattle.q4_turn.specs.Steps.{IsExact, Takes};
 ghost use Rattle.q4_turn.specs.Passes.{Holds, Waits, Entered, MayAdd};
-ghost use Rattle.q4_turn.specs.Turns.{view, IsFree, HasTurn, value_of, count_of};
+ghost use Rattle.q4_turn.specs.Turns.{view, seen, IsFree, HasTurn, value_of, count_of};
 
 use crate::kept::Kept;
 use crate::plays::{Count, Draw, End, Look, Measure, NamedEntries};
@@ -25,7 +25,7 @@ impl<V: Kept> Turn<V> {
         requires { IsFree self.now pass.old }
         ensures turn { HasTurn self.now pass.new result }
         ensures entered { Entered V.stands V.mark (view pass.old) (value_of result) (view pass.new) }
-        ensures count { (count_of result ≡ length (view pass.new).seen) × (count_of result ≤ 2 ^ 62) }
+        ensures count { (count_of result ≡ length (seen pass.new)) × (count_of result ≤ 2 ^ 62) }
     {
         let ticket = self.draw_ticket(rt, pass);
         self.wait_for(rt, pass, ticket);
@@ -93,7 +93,7 @@ impl<V: Kept> Turn<V> {
         ghost es: { List V.Entry }
         requires turn { HasTurn self.now pass.old held }
         requires adds { MayAdd V.stands V.mark (view pass.old) (value_of held) added es }
-        requires room { length (view pass.old).seen + added ≤ 2 ^ 62 }
+        requires room { length (seen pass.old) + added ≤ 2 ^ 62 }
         ensures free { IsFree self.now pass.new }
         ensures view { (view pass.new ≡ without_turn (extended (view pass.old) es)) × IsExact V.mark (view pass.new) }
     {
@@ -104,7 +104,7 @@ impl<V: Kept> Turn<V> {
     fn leave_named<N: NamedEntries<V::Entry>>(&self, pass: &mut Pass<V>, held: Held<V>, added: u64)
         requires turn { Holds self.now.table.shared.table_id pass.old.seat }
         requires adds { MayAdd V.stands V.mark (view pass.old) (value_of held) added N.entries }
-        requires room { length (view pass.old).seen + added ≤ 2 ^ 62 }
+        requires room { length (seen pass.old) + added ≤ 2 ^ 62 }
         ensures free { IsFree self.now pass.new }
         ensures view { (view pass.new ≡ without_turn (extended (view pass.old) N.entries)) × IsExact V.mark (view pass.new) }
     {

@@ -4,7 +4,7 @@ ghost use Rattle.q4_turn.specs.Lists.{StartsWith};
 ghost use Rattle.q4_turn.specs.Views.{claims, times, with_number, after_split, split_by_hand, joined};
 ghost use Rattle.q4_turn.specs.Steps.{IsExact};
 ghost use Rattle.q4_turn.specs.Passes.{seat_view, Rests, HasNumber, IsSplitOff};
-ghost use Rattle.q4_turn.specs.Turns.{view, IsFree};
+ghost use Rattle.q4_turn.specs.Turns.{view, seen, IsFree};
 
 use crate::kept::Kept;
 use crate::plays::{Both, Compare, Cut, Know, NamedParts, Number};
@@ -87,7 +87,7 @@ impl<V: Kept> Turn<V> {
         requires second { IsFree self.now second }
         ensures free { IsFree self.now result }
         ensures view { view result ≡ joined (view first) (view second) }
-        ensures seen { StartsWith (view result).seen (view first).seen × StartsWith (view result).seen (view second).seen }
+        ensures seen { StartsWith (seen result) (seen first) × StartsWith (seen result) (seen second) }
         ensures exact { IsExact V.mark (view result) }
     {
         let seat = self.join_seats(first.into_seat(), second.into_seat());

@@ -29,7 +29,7 @@ fn leave_one<V: Office>(turn: &Turn<V>, pass: &mut Pass<V>, held: Held<V>, _x: u
     ghost es: { List V.Entry }
     requires turn { HasTurn turn.now pass.old held }
     requires adds { MayAdd V.stands V.mark (view pass.old) (value_of held) 1 es }
-    requires room { length (view pass.old).seen + 1 ≤ 2 ^ 62 }
+    requires room { length (seen pass.old) + 1 ≤ 2 ^ 62 }
     ensures free { IsFree turn.now pass.new }
     ensures view { (view pass.new ≡ without_turn (extended (view pass.old) es)) × IsExact V.mark (view pass.new) }
 {
@@ -47,7 +47,7 @@ fn leave_two<V: Office>(
     ghost es: { List V.Entry }
     requires turn { HasTurn turn.now pass.old held }
     requires adds { MayAdd V.stands V.mark (view pass.old) (value_of held) 2 es }
-    requires room { length (view pass.old).seen + 2 ≤ 2 ^ 62 }
+    requires room { length (seen pass.old) + 2 ≤ 2 ^ 62 }
     ensures free { IsFree turn.now pass.new }
     ensures view { (view pass.new ≡ without_turn (extended (view pass.old) es)) × IsExact V.mark (view pass.new) }
 {

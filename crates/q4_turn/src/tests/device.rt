@@ -47,7 +47,7 @@ fn leave_line<D: Device>(
     ghost es: { List Line }
     requires turn { HasTurn turn.now pass.old held }
     requires adds { MayAdd ⟦<Journal<D> as Kept>⟧.stands ⟦<Journal<D> as Kept>⟧.mark (view pass.old) (value_of held) 1 es }
-    requires room { length (view pass.old).seen + 1 ≤ 2 ^ 62 }
+    requires room { length (seen pass.old) + 1 ≤ 2 ^ 62 }
     ensures free { IsFree turn.now pass.new }
     ensures view { view pass.new ≡ without_turn (extended (view pass.old) es) }
 {
