@@ -1,0 +1,6 @@
+pub mod Basics
+pub mod Entering
+pub mod Adding
+pub mod Founding
+pub mod Splitting
+pub mod Joining

@@ -1,0 +1,9 @@
+pub mod Lists
+pub mod Views
+pub mod Rules
+pub mod Steps
+pub mod Passes
+pub mod Turns
+pub mod Lending
+pub mod Props
+pub mod Counted
