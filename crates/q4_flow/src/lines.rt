@@ -1,6 +1,6 @@
 ghost use Rattle.std.specs.Prelude.{◌≡◌, ◌≢◌, ◌≤◌, ◌<◌, ◌++◌, ◌⊎◌, [], None, Some, false, length, IfOk, IsTrue};
 ghost use Rattle.q4_flow.specs.Flow.{Rose};
-ghost use Rattle.q4_flow.specs.Lines.{Next, Takes, Cuts, Appended, NewlineAt, fuel};
+ghost use Rattle.q4_flow.specs.Lines.{Next, Takes, Cuts, Appended, NewlineAt, IsOneLine, fuel};
 
 use crate::{ReadFailed, Source};
 use memchr::memchr;
@@ -104,6 +104,10 @@ impl Lines {
         ensures later { S.faults source.old ≤ S.faults source.new }
         ensures cause { self.old.stopped ≡ None → result ≡ LineEnd.ReadFault → Rose (S.faults source.old) (S.faults source.new) }
         ensures stayed { S.faults source.new ≡ S.faults source.old ⊎ (result ≡ LineEnd.ReadFault) }
+
+        // It reads only where it must: not after it stopped, and not for a line that is there.
+        ensures halted { self.old.stopped ≢ None → source.new ≡ source.old }
+        ensures lent { (IsOneLine self.old.pending → ⊥) → source.new ≡ source.old }
     {
         match self.stopped {
             Some(end) => end,
@@ -120,6 +124,7 @@ impl Lines {
         ensures later { S.faults source.old ≤ S.faults source.new }
         ensures cause { result ≡ LineEnd.ReadFault → Rose (S.faults source.old) (S.faults source.new) }
         ensures stayed { S.faults source.new ≡ S.faults source.old ⊎ (result ≡ LineEnd.ReadFault) }
+        ensures lent { (IsOneLine self.old.pending → ⊥) → source.new ≡ source.old }
     {
         if self.cut() {
             return LineEnd::Line;
@@ -145,6 +150,7 @@ impl Lines {
         ensures line { IsTrue result → Cuts self.old.pending ⊥ self.new LineEnd.Line }
         ensures shorter { IsTrue result → length self.new.pending < length self.old.pending }
         ensures none { result ≡ false → self.new.pending ≡ self.old.pending }
+        ensures unended { result ≡ false → IsOneLine self.old.pending }
         ensures stopped { self.new.stopped ≡ self.old.stopped }
     {
         let Some(at) = find_newline(&self.chunk[self.from..self.until]) else {

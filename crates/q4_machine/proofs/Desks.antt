@@ -19,7 +19,7 @@ use Rattle.q4_machine.specs.declared.table.Added.TheVariants.{New}
 use Rattle.q4_machine.specs.declared.desk.ModeFault.TheVariants as fault
 use Rattle.q4_machine.specs.Step.{end_reply, look_reply, added_reply}
 use Rattle.q4_machine.specs.History.{state_after, is_change, is_owner, IsSettled, IsOpenFor}
-use Rattle.q4_machine.specs.Parts.{own_of, of_caller, Answer, Replied, ends_first, ending, Stands, IsPart, IsInOrder, Grows, IsOpened, IsClosed, insert_answer, wait_answer, end_answer}
+use Rattle.q4_machine.specs.Parts.{calls_of, of_caller, Answer, Replied, ends_first, ending, Stands, IsPart, IsInOrder, Grows, IsOpened, IsClosed, insert_answer, wait_answer, end_answer}
 use Rattle.q4_machine.specs.Recorded.{Recorded, DeskState, entry, pushed, HasRoom, IsSound}
 use Rattle.q4_machine.specs.OneDesk.{IsDesk}
 use Rattle.q4_machine.proofs.Lookup.{some_of}
@@ -84,7 +84,7 @@ of_session : (s : ℕ) (e : Entry) (es : List Entry) → e.session ≡ s → All
 of_session s e es is rest = All-cons (λ (x : Entry). x.session ≡ s) e es is rest
 
 -- the one entry of a call
-single_part : (h : List Entry) (s : ℕ) (call : Call) (r : Reply) → own_of 0 (entry s call r ∷ []) ≡ entry s call r ∷ [] → ends_first call (mode_of (state_after h) s) ≡ false → ((place : ℕ) → IsSettled (h ++ entry s call r ∷ []) place)
+single_part : (h : List Entry) (s : ℕ) (call : Call) (r : Reply) → calls_of 0 (entry s call r ∷ []) ≡ entry s call r ∷ [] → ends_first call (mode_of (state_after h) s) ≡ false → ((place : ℕ) → IsSettled (h ++ entry s call r ∷ []) place)
     → IsPart h (entry s call r ∷ []) 0 s call (Replied r)
 single_part h s call r own calm settled = record {
   session_is = of_session s (entry s call r) [] refl (All-nil (λ (x : Entry). x.session ≡ s));
@@ -280,7 +280,7 @@ opened_desk h r1 r2 s same room first was sound open_for =
     let a = entry s Open (reply.Session s) in
     let grew : r2.seen ≡ h ++ a ∷ [] = ap (λ (x : Recorded). x.seen) first ∙ ap (λ x. x ++ a ∷ []) same in
     let settled = λ (place : ℕ). subst (λ x. IsSettled x place) (sym grew) (settled_push h a was refl place) in
-    (desk_of r2 (Some s) s refl sound open_for settled (room_left r1 r2 a room first), (a ∷ [], grew, (of_session s a [] refl (All-nil (λ (x : Entry). x.session ≡ s)), refl)))
+    (desk_of r2 (Some s) s refl sound open_for settled (room_left r1 r2 a room first), (a ∷ [], grew, refl))
 
 pub closed_desk : (h : List Entry) (r1 r2 : Recorded) (s : ℕ) → r1.seen ≡ h → r2 ≡ pushed r1 s Close reply.Done → ((place : ℕ) → IsSettled h place) → IsSound r2.seen
     → IsDesk r2 None × Grows h r2.seen (λ grown. IsClosed 0 s grown)
@@ -293,7 +293,7 @@ closed_desk h r1 r2 s same first was sound =
         settled = λ place. subst (λ x. IsSettled x place) (sym grew) (settled_push h a was refl place);
         room = λ k is. absurd (none_some k is);
       },
-      (a ∷ [], grew, (of_session s a [] refl (All-nil (λ (x : Entry). x.session ≡ s)), refl)),
+      (a ∷ [], grew, refl),
     )
 
 pub closed_for : (d : DeskState) (seen : List Entry) (current : Option ℕ) (session : ℕ) (seen' : List Entry) → record { seen = seen; current = current } ≡ d → current ≡ Some session → Grows seen seen' (λ grown. IsClosed 0 session grown)

@@ -2,7 +2,7 @@
 use Rattle.std.specs.Prelude.{◌≡◌, ℕ, Option, Some, None, [], ◌∷◌}
 use Rattle.q4_machine.specs.History.{IsSettled}
 use Rattle.q4_machine.specs.Parts.{IsInOrder}
-use Rattle.q4_machine.specs.Recorded.{Recorded, DeskState, HasRoom, IsSound, opening}
+use Rattle.q4_machine.specs.Recorded.{Recorded, DeskState, HasRoom, IsSound, opened_built_in}
 
 -- The history is in order and by caller 0, all of it is settled, and there is room for the entry that closes the
 -- current session.
@@ -14,4 +14,4 @@ pub record IsDesk (recorded : Recorded) (current : Option ℕ) : Type 0 where
 
 -- A new desk has the one entry of the empty built-in table, and no session.
 abbrev pub IsNew : DeskState → Type 0
-IsNew d = (d.seen ≡ opening ∷ []) × (d.current ≡ None)
+IsNew d = (d.seen ≡ opened_built_in ∷ []) × (d.current ≡ None)

@@ -24,9 +24,9 @@ use Rattle.q4_machine.specs.History.{state_after, is_sync, IsSettled, IsLegal, I
 abbrev pub of_caller : ℕ → List Entry → List Entry
 of_caller caller history = filter (λ e. e.caller == caller) history
 
--- those of them that are no sync
-abbrev pub own_of : ℕ → List Entry → List Entry
-own_of caller history = filter (λ e. e.caller == caller && not (is_sync e.call)) history
+-- those of them that are no sync: the calls, and what they do first
+abbrev pub calls_of : ℕ → List Entry → List Entry
+calls_of caller history = filter (λ e. e.caller == caller && not (is_sync e.call)) history
 
 -- what a desk answers to a call: the reply of the call's entry, or that it wants memory
 pub data Answer : Type 0 where
@@ -56,13 +56,13 @@ pub record Stands (before grown : List Entry) (caller session : ℕ) (call : Cal
   pub front : List Entry
   pub back : List Entry
   pub cut : grown ≡ front ++ record { caller = caller; session = session; call = call; reply = reply } ∷ back
-  pub own_front : own_of caller front ≡ ending (ends_first call (mode_of (state_after before) session)) caller session
-  pub own_back : own_of caller back ≡ []
+  pub own_front : calls_of caller front ≡ ending (ends_first call (mode_of (state_after before) session)) caller session
+  pub own_back : calls_of caller back ≡ []
   pub settled : IsSettled (before ++ grown) (length (before ++ front))
 
 abbrev pub Cases : List Entry → List Entry → ℕ → ℕ → Call → Answer → Type 0
 Cases before grown caller session call (Replied reply) = Stands before grown caller session call reply
-Cases before grown caller session call WantsMemory = own_of caller grown ≡ []
+Cases before grown caller session call WantsMemory = calls_of caller grown ≡ []
 
 -- The part of one call: what the history grew by while it ran. The caller's entries there are of its session.
 pub record IsPart (before grown : List Entry) (caller session : ℕ) (call : Call) (answer : Answer) : Type 0 where
@@ -94,13 +94,11 @@ end_answer (Ok done) = Replied Done
 end_answer (Err fault.NotOwner) = Replied (reply.Refused refusal.NotOwner)
 end_answer (Err (fault.Desk Memory)) = WantsMemory
 
--- The opening made its one entry, or none where it was refused.
+-- The opening made its one entry and settled nothing, or made none where it was refused.
 abbrev pub IsOpened : ℕ → List Entry → Result ℕ DeskFault → Type 0
-IsOpened caller grown (Ok s) =
-    All (λ e. e.session ≡ s) (of_caller caller grown) × (own_of caller grown ≡ record { caller = caller; session = s; call = Open; reply = Session s } ∷ [])
-IsOpened caller grown (Err refused) = own_of caller grown ≡ []
+IsOpened caller grown (Ok s) = of_caller caller grown ≡ record { caller = caller; session = s; call = Open; reply = Session s } ∷ []
+IsOpened caller grown (Err refused) = of_caller caller grown ≡ []
 
 -- The closing made its one entry.
 abbrev pub IsClosed : ℕ → ℕ → List Entry → Type 0
-IsClosed caller s grown =
-    All (λ e. e.session ≡ s) (of_caller caller grown) × (own_of caller grown ≡ record { caller = caller; session = s; call = Close; reply = Done } ∷ [])
+IsClosed caller s grown = of_caller caller grown ≡ record { caller = caller; session = s; call = Close; reply = Done } ∷ []

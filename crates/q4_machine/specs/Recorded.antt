@@ -41,5 +41,5 @@ pub record IsRecorded (machine : MachineState) (history : List Entry) : Type 0 w
   pub sound : IsSound history
 
 -- the one entry of a new desk: the empty built-in table
-abbrev pub opening : Entry
-opening = entry 0 (Opened (record { next = 1; rows = [] } ∷ [])) Done
+abbrev pub opened_built_in : Entry
+opened_built_in = entry 0 (Opened (record { next = 1; rows = [] } ∷ [])) Done

@@ -1,4 +1,4 @@
--- What contracts see of a table, of a machine and of a desk in memory.
+-- What contracts see of a table.
 use Rattle.std.specs.Prelude.{ℕ, List, Option}
 use Rattle.q4_machine.specs.declared.table.StoredRow.{StoredRow}
 

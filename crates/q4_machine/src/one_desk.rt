@@ -1,4 +1,6 @@
 ghost use Rattle.std.specs.Prelude.{◌≡◌, ℕ, List, Option, Some, None, IfOk};
+ghost use Rattle.q4_machine.specs.History.{IsSettled};
+ghost use Rattle.q4_machine.specs.Recorded.{IsSound};
 ghost use Rattle.q4_machine.specs.OneDesk.{IsNew};
 
 use crate::recorded::RecordedMachine;
@@ -41,7 +43,11 @@ impl OneDesk {
 
     /// The whole history, oldest entry first.
     pub fn history(&self) -> &[Entry]
-        ensures { result.now ≡ self.now.seen }
+        ensures seen { result.now ≡ self.now.seen }
+
+        // It is legal, and all of it is by caller 0.
+        ensures sound { IsSound result.now }
+        ensures settled { (place : ℕ) → IsSettled result.now place }
     {
         self.recorded.history()
     }

@@ -5,7 +5,7 @@ ghost use Rattle.q4_machine.specs.Fits.{RowFits};
 ghost use Rattle.q4_machine.specs.Machine.{mode_of};
 ghost use Rattle.q4_machine.specs.Step.{look_reply, end_reply, added_reply};
 ghost use Rattle.q4_machine.specs.History.{state_after, is_owner, IsOpenFor};
-ghost use Rattle.q4_machine.specs.Recorded.{pushed, opening, HasRoom, IsSound};
+ghost use Rattle.q4_machine.specs.Recorded.{pushed, opened_built_in, HasRoom, IsSound};
 
 use crate::{
     Added, Call, DeskFault, Entry, Looks, Machine, Refusal, Reply, SessionMode, Table, Tables,
@@ -40,7 +40,7 @@ impl Model for RecordedMachine {
 impl RecordedMachine {
     /// A machine over the empty built-in table.
     pub fn new(alloc: Global) -> Result<RecordedMachine, NoMemory>
-        ensures seen { IfOk result (λ recorded. recorded.seen ≡ opening ∷ []) }
+        ensures seen { IfOk result (λ recorded. recorded.seen ≡ opened_built_in ∷ []) }
         ensures sound { IfOk result (λ recorded. IsSound recorded.seen) }
     {
         let machine = match Machine::new(alloc, built_in_tables(alloc)?) {

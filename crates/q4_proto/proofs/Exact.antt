@@ -14,6 +14,8 @@ use Rattle.std.proofs.lemmas.Fmt.{decimal_digit, decimal-digits_of}
 use Rattle.memchr.specs.Find.{IsFirstByte, Nowhere, NoneBefore, Passes, is_byte}
 use Rattle.q4_value.specs.declared.row.Value.{Value}
 use Rattle.q4_value.specs.declared.row.Value.TheVariants.{Int, Word}
+use Rattle.q4_value.specs.Row.{IsValue}
+use Rattle.q4_machine.specs.Fits.{RowFits}
 use Rattle.q4_proto.specs.declared.command.Command.{Command}
 use Rattle.q4_proto.specs.declared.command.Command.TheVariants.{Insert, Wait, End, Quit}
 use Rattle.q4_proto.specs.declared.command.CommandFault.{CommandFault}
@@ -143,3 +145,15 @@ before_tab line at first =
 pub no_tab_field : (line : List ℕ) → Nowhere (Passes (is_byte 9) line) 0 (length line) → first_field line ≡ line
 no_tab_field line nowhere =
     ap (λ n. take n line) (position_or_len_is (λ b. b == 9) line (length line) 0 (omega arith) (λ k before. not_passes line k (nowhere k (omega arith) before)) (λ inside. absurd (past (length line) inside))) ∙ take_all (length line) line (omega arith)
+
+-- ## A row that is spelled fits
+
+pub spelled_fits : (fields : List ℕ) (row : List Value) → SpellsRow fields row → RowFits row
+spelled_fits fields row spells =
+    subst RowFits (sym spells.row_is) (record {
+      row_of = record {
+        kinds = refl;
+        values = All-cons IsValue (Int spells.priority) (Word spells.body ∷ []) spells.in_range (All-cons IsValue (Word spells.body) [] (spells.text, spells.short) (All-nil IsValue));
+      };
+      size = let short = spells.short in omega (arith, short);
+    })

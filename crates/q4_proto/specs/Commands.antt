@@ -11,7 +11,7 @@ use Rattle.q4_proto.specs.declared.command.Command.TheVariants.{Insert, Wait, En
 use Rattle.q4_proto.specs.declared.command.CommandFault.{CommandFault}
 use Rattle.q4_proto.specs.declared.command.CommandFault.TheVariants.{Unknown, NotBuilt, Memory}
 
--- A byte of a text that stands for itself: no TAB, no byte 13, no backslash.
+-- A byte of a text that stands for itself: no TAB, no byte 13, no backslash. A line has no newline anyway.
 abbrev pub IsPlainByte : ℕ → Type 0
 IsPlainByte b = (b ≢ 9) × (b ≢ 13) × (b ≢ 92)
 

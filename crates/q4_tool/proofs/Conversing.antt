@@ -10,7 +10,7 @@ use Rattle.q4_flow.specs.Reading.{Reading}
 use Rattle.q4_flow.proofs.Known.{gave_nothing, gave_more, took_nothing, took_more}
 use Rattle.q4_machine.specs.declared.entry.Entry.{Entry}
 use Rattle.q4_machine.specs.declared.desk.DeskFault.TheVariants as fault
-use Rattle.q4_machine.specs.Parts.{own_of, Grows, IsOpened}
+use Rattle.q4_machine.specs.Parts.{Grows, IsOpened}
 use Rattle.q4_proto.specs.declared.reply.Outcome.{Outcome}
 use Rattle.q4_proto.specs.declared.reply.Outcome.TheVariants as outcome
 use Rattle.q4_proto.specs.Text.{text}
@@ -25,6 +25,7 @@ use Rattle.q4_tool.specs.Answering.{Told, Answering, TellCause, LastReply, LastC
 -- The lines so far, none of them `bye`, and the bytes that are pending.
 pub record Conversing (caller session : ℕ) (seen seen' : List Entry) (left left' : Option (List ℕ)) (pending : List ℕ) (written written' : Option (List ℕ)) : Type 0 where
   pub exchanges : List Exchange
+  pub lines : All (λ e. IsOpenLine e.line) exchanges
   pub answered : AreExchanges caller session seen exchanges
   pub history : seen' ≡ seen ++ grown_by exchanges
   pub read : Gave left left' (lines_of exchanges ++ pending)
@@ -35,6 +36,7 @@ pub record Conversing (caller session : ℕ) (seen seen' : List Entry) (left lef
 pub no_line : (caller session : ℕ) (seen : List Entry) (left written : Option (List ℕ)) → Conversing caller session seen seen left left [] written written
 no_line caller session seen left written = record {
   exchanges = [];
+  lines = All-nil (λ (e : Exchange). IsOpenLine e.line);
   answered = tt;
   history = sym (append-nil seen);
   read = gave_nothing left;
@@ -57,6 +59,7 @@ takes_of old new left left' ended how next going = subst (λ o. NextFrom o old n
 
 -- One more line, whatever it was answered.
 pub record Pushed (caller session : ℕ) (seen seen' : List Entry) (left left' : Option (List ℕ)) (pending : List ℕ) (exchanges : List Exchange) : Type 0 where
+  pub lines : All (λ e. IsOpenLine e.line) exchanges
   pub answered : AreExchanges caller session seen exchanges
   pub history : seen' ≡ seen ++ grown_by exchanges
   pub read : Gave left left' (lines_of exchanges ++ pending)
@@ -66,11 +69,12 @@ line_moves lines pending taken line rest is =
     append_assoc lines pending taken ∙ ap (λ xs. lines ++ xs) (is ∙ sym (append_assoc line (10 ∷ []) rest)) ∙ sym (append_assoc lines (line ++ 10 ∷ []) rest)
 
 pushed : (caller session : ℕ) (seen seen1 seen2 : List Entry) (left left1 left2 : Option (List ℕ)) (pending rest : List ℕ) (written written1 : Option (List ℕ)) (taken : List ℕ) (e : Exchange)
-    → (so_far : Conversing caller session seen seen1 left left1 pending written written1) → Gave left1 left2 taken → pending ++ taken ≡ e.line ++ 10 ∷ rest
+    → (so_far : Conversing caller session seen seen1 left left1 pending written written1) → Gave left1 left2 taken → pending ++ taken ≡ e.line ++ 10 ∷ rest → IsOpenLine e.line
     → seen2 ≡ seen1 ++ e.grown → IsExchange caller session seen1 e → Pushed caller session seen seen2 left left2 rest (so_far.exchanges ++ e ∷ [])
-pushed caller session seen seen1 seen2 left left1 left2 pending rest written written1 taken e so_far gave cut grew next =
+pushed caller session seen seen1 seen2 left left1 left2 pending rest written written1 taken e so_far gave cut open_line grew next =
     let xs = so_far.exchanges in
     record {
+      lines = All-push (λ (x : Exchange). IsOpenLine x.line) xs e so_far.lines open_line;
       answered = exchanges_push caller session seen xs e so_far.answered (subst (λ h. IsExchange caller session h e) so_far.history next);
       history = grew ∙ ap (λ h. h ++ e.grown) so_far.history ∙ append_assoc seen (grown_by xs) e.grown ∙ ap (λ h. seen ++ h) (sym (flat_map_push (λ (x : Exchange). x.grown) xs e));
       read = subst (Gave left left2) (line_moves (lines_of xs) pending taken e.line rest cut ∙ ap (λ bytes. bytes ++ rest) (sym (flat_map_push (λ (x : Exchange). x.line ++ 10 ∷ []) xs e))) (gave_more left left1 left2 (lines_of xs ++ pending) taken so_far.read gave);
@@ -81,13 +85,14 @@ texts_push exchanges e = flat_map_push (λ (x : Exchange). text x.outcome) excha
 
 -- a line after which the session goes on
 pub goes_on_more : (caller session : ℕ) (seen seen1 seen2 : List Entry) (left left1 left2 : Option (List ℕ)) (pending rest : List ℕ) (written written1 written2 : Option (List ℕ)) (taken line : List ℕ)
-    → (so_far : Conversing caller session seen seen1 left left1 pending written written1) → Gave left1 left2 taken → pending ++ taken ≡ line ++ 10 ∷ rest
+    → (so_far : Conversing caller session seen seen1 left left1 pending written written1) → Gave left1 left2 taken → pending ++ taken ≡ line ++ 10 ∷ rest → IsOpenLine line
     → Answering caller session seen1 seen2 line written1 written2 answered.Next → Conversing caller session seen seen2 left left2 rest written written2
-goes_on_more caller session seen seen1 seen2 left left1 left2 pending rest written written1 written2 taken line so_far gave cut answering =
+goes_on_more caller session seen seen1 seen2 left left1 left2 pending rest written written1 written2 taken line so_far gave cut open_line answering =
     let e : Exchange = record { line = line; grown = answering.grown; outcome = answering.out } in
-    let more = pushed caller session seen seen1 seen2 left left1 left2 pending rest written written1 taken e so_far gave cut answering.history answering.exchange in
+    let more = pushed caller session seen seen1 seen2 left left1 left2 pending rest written written1 taken e so_far gave cut open_line answering.history answering.exchange in
     record {
       exchanges = so_far.exchanges ++ e ∷ [];
+      lines = more.lines;
       answered = more.answered;
       history = more.history;
       read = more.read;
@@ -97,14 +102,15 @@ goes_on_more caller session seen seen1 seen2 left left1 left2 pending rest writt
 
 -- a line that was answered `bye`
 pub ends_by_quit : (caller session : ℕ) (seen seen1 seen2 : List Entry) (left left1 left2 : Option (List ℕ)) (ended : Type 0) (pending rest : List ℕ) (written written1 written2 : Option (List ℕ)) (taken line : List ℕ)
-    → (so_far : Conversing caller session seen seen1 left left1 pending written written1) → Gave left1 left2 taken → pending ++ taken ≡ line ++ 10 ∷ rest
+    → (so_far : Conversing caller session seen seen1 left left1 pending written written1) → Gave left1 left2 taken → pending ++ taken ≡ line ++ 10 ∷ rest → IsOpenLine line
     → Answering caller session seen1 seen2 line written1 written2 answered.Quit → Conversation caller session seen seen2 left left2 ended written written2 end.Quit
-ends_by_quit caller session seen seen1 seen2 left left1 left2 ended pending rest written written1 written2 taken line so_far gave cut answering =
+ends_by_quit caller session seen seen1 seen2 left left1 left2 ended pending rest written written1 written2 taken line so_far gave cut open_line answering =
     let e : Exchange = record { line = line; grown = answering.grown; outcome = answering.out } in
-    let more = pushed caller session seen seen1 seen2 left left1 left2 pending rest written written1 taken e so_far gave cut answering.history answering.exchange in
+    let more = pushed caller session seen seen1 seen2 left left1 left2 pending rest written written1 taken e so_far gave cut open_line answering.history answering.exchange in
     record {
       exchanges = so_far.exchanges ++ e ∷ [];
       rest = rest;
+      lines = more.lines;
       answered = more.answered;
       history = more.history;
       read = more.read;
@@ -116,14 +122,15 @@ wrote_front a b c texts words took front = record { front = front.front; is_fron
 
 -- a line at whose reply the sink failed
 pub ends_by_fault : (caller session : ℕ) (seen seen1 seen2 : List Entry) (left left1 left2 : Option (List ℕ)) (ended : Type 0) (pending rest : List ℕ) (written written1 written2 : Option (List ℕ)) (taken line : List ℕ)
-    → (so_far : Conversing caller session seen seen1 left left1 pending written written1) → Gave left1 left2 taken → pending ++ taken ≡ line ++ 10 ∷ rest
+    → (so_far : Conversing caller session seen seen1 left left1 pending written written1) → Gave left1 left2 taken → pending ++ taken ≡ line ++ 10 ∷ rest → IsOpenLine line
     → Answering caller session seen1 seen2 line written1 written2 answered.WriteFault → Conversation caller session seen seen2 left left2 ended written written2 end.WriteFault
-ends_by_fault caller session seen seen1 seen2 left left1 left2 ended pending rest written written1 written2 taken line so_far gave cut answering =
+ends_by_fault caller session seen seen1 seen2 left left1 left2 ended pending rest written written1 written2 taken line so_far gave cut open_line answering =
     let e : Exchange = record { line = line; grown = answering.grown; outcome = answering.out } in
-    let more = pushed caller session seen seen1 seen2 left left1 left2 pending rest written written1 taken e so_far gave cut answering.history answering.exchange in
+    let more = pushed caller session seen seen1 seen2 left left1 left2 pending rest written written1 taken e so_far gave cut open_line answering.history answering.exchange in
     record {
       exchanges = so_far.exchanges ++ e ∷ [];
       rest = rest;
+      lines = more.lines;
       answered = more.answered;
       history = more.history;
       read = more.read;
@@ -149,6 +156,7 @@ pub ends_silently : (caller session : ℕ) (seen seen1 : List Entry) (left left1
 ends_silently caller session seen seen1 left left1 left2 ended pending written written1 taken how so_far gave ends silent = record {
   exchanges = so_far.exchanges;
   rest = pending ++ taken;
+  lines = so_far.lines;
   answered = so_far.answered;
   history = so_far.history;
   read = read_more left left1 left2 (lines_of so_far.exchanges) pending taken so_far.read gave;
@@ -162,6 +170,7 @@ last_cut caller session seen seen1 left left1 left2 ended pending written writte
     subst (λ r. Conversation caller session seen seen1 left left2 ended written written2 r) (sym cut.0) (record {
       exchanges = so_far.exchanges;
       rest = pending ++ taken;
+      lines = so_far.lines;
       answered = so_far.answered;
       history = so_far.history;
       read = read_more left left1 left2 (lines_of so_far.exchanges) pending taken so_far.read gave;
@@ -176,6 +185,7 @@ ends_by_words caller session seen seen1 left left1 left2 ended pending written w
     subst (λ r. Conversation caller session seen seen1 left left2 ended written written2 r) (sym wrote.0) (record {
       exchanges = so_far.exchanges;
       rest = pending ++ taken;
+      lines = so_far.lines;
       answered = so_far.answered;
       history = so_far.history;
       read = read_more left left1 left2 (lines_of so_far.exchanges) pending taken so_far.read gave;
@@ -192,6 +202,14 @@ stays_or now before (inr other) = cc other
 
 pub stays_at_next : (before now : ℕ) → TellCause before now answered.Next → now ≡ before
 stays_at_next before now cause = stays_or now before cause.stayed
+
+line_stays : (now before : ℕ) → (now ≡ before) ⊎ (line.Line ≡ line.ReadFault) → now ≡ before
+line_stays now before (inl same) = same
+line_stays now before (inr other) = cc other
+
+-- a line was found, so no read failed
+pub stays_at_line : (before now : ℕ) → (now ≡ before) ⊎ (line.Line ≡ line.ReadFault) → now ≡ before
+stays_at_line before now stayed = line_stays now before stayed
 
 -- ## The opening was refused
 

@@ -1,9 +1,9 @@
 -- What a session does, from its opening to its closing.
-use Rattle.std.specs.Prelude.{◌≡◌, ◌≢◌, ◌≤◌, ◌<◌, ◌++◌, ◌∷◌, ◌⊎◌, [], ℕ, List, Option, Ok, take, length, codes}
+use Rattle.std.specs.Prelude.{◌≡◌, ◌≢◌, ◌≤◌, ◌<◌, ◌++◌, ◌∷◌, ◌⊎◌, [], ℕ, List, Option, Ok, All, take, length, codes}
 use Rattle.q4_flow.specs.Flow.{Rose, Gave, Took, IsFront}
 use Rattle.q4_flow.specs.Lines.{IsOneLine, IsOpenLine, line_limit}
 use Rattle.q4_machine.specs.declared.entry.Entry.{Entry}
-use Rattle.q4_machine.specs.Parts.{own_of, IsOpened, IsClosed}
+use Rattle.q4_machine.specs.Parts.{of_caller, IsOpened, IsClosed}
 use Rattle.q4_proto.specs.declared.reply.Outcome.TheVariants as outcome
 use Rattle.q4_proto.specs.Text.{text, code}
 use Rattle.q4_tool.specs.declared.sessions.SessionEnd.{SessionEnd}
@@ -61,10 +61,11 @@ Concludes TooLong old new exchanges rest ended = InputEnds TooLong exchanges res
 Concludes ReadFault old new exchanges rest ended = InputEnds ReadFault exchanges rest ended × Took old new (texts_of exchanges)
 Concludes Memory old new exchanges rest ended = InputEnds Memory exchanges rest ended × Took old new (texts_of exchanges ++ last_words Memory)
 
--- The lines of an open session, answered one after the other.
+-- The lines of an open session, cut at each newline, and answered one after the other.
 pub record Conversation (caller session : ℕ) (seen seen' : List Entry) (left left' : Option (List ℕ)) (ended : Type 0) (written written' : Option (List ℕ)) (how : SessionEnd) : Type 0 where
   pub exchanges : List Exchange
   pub rest : List ℕ
+  pub lines : All (λ e. IsOpenLine e.line) exchanges
   pub answered : AreExchanges caller session seen exchanges
   pub history : seen' ≡ seen ++ grown_by exchanges
   pub read : Gave left left' (lines_of exchanges ++ rest)
@@ -74,12 +75,12 @@ pub record Conversation (caller session : ℕ) (seen seen' : List Entry) (left l
 pub record OpenedSession (caller : ℕ) (seen seen' : List Entry) (left left' : Option (List ℕ)) (ended : Type 0) (written written' : Option (List ℕ)) (how : SessionEnd) : Type 0 where
   pub session : ℕ
   pub opening : List Entry
-  pub middle : List Entry
+  pub before_closing : List Entry
   pub closing : List Entry
   pub opened : IsOpened caller opening (Ok session)
-  pub conversation : Conversation caller session (seen ++ opening) middle left left' ended written written' how
+  pub conversation : Conversation caller session (seen ++ opening) before_closing left left' ended written written' how
   pub closed : IsClosed caller session closing
-  pub history : seen' ≡ middle ++ closing
+  pub history : seen' ≡ before_closing ++ closing
 
 -- the refusal of an opening is written alone, or a front of it
 abbrev pub WroteRefusal : SessionEnd → Option (List ℕ) → Option (List ℕ) → Type 0
@@ -95,13 +96,19 @@ WroteRefusal ReadFault old new = ⊥
 pub record RefusedSession (caller : ℕ) (seen seen' : List Entry) (left left' : Option (List ℕ)) (written written' : Option (List ℕ)) (how : SessionEnd) : Type 0 where
   pub grown : List Entry
   pub history : seen' ≡ seen ++ grown
-  pub none : own_of caller grown ≡ []
+  pub none : of_caller caller grown ≡ []
   pub read : left' ≡ left
   pub wrote : WroteRefusal how written written'
 
 abbrev pub Session : ℕ → List Entry → List Entry → Option (List ℕ) → Option (List ℕ) → Type 0 → Option (List ℕ) → Option (List ℕ) → SessionEnd → Type 0
 Session caller seen seen' left left' ended written written' how =
     OpenedSession caller seen seen' left left' ended written written' how ⊎ RefusedSession caller seen seen' left left' written written' how
+
+-- A read fault comes exactly where the source's count rose.
+pub record ReadCause (before now : ℕ) (how : SessionEnd) : Type 0 where
+  pub later : before ≤ now
+  pub failed : how ≡ ReadFault → Rose before now
+  pub stayed : (now ≡ before) ⊎ (how ≡ ReadFault)
 
 -- A write fault comes only where the sink's count rose, and wherever it is greater.
 pub record WriteCause (before now : ℕ) (how : SessionEnd) : Type 0 where

@@ -1,10 +1,10 @@
 -- What the program does.
-use Rattle.std.specs.Prelude.{◌≡◌, ◌++◌, ◌∷◌, ◌⊎◌, [], ℕ, List, Option, String, codes, string_bytes}
+use Rattle.std.specs.Prelude.{◌≡◌, ◌++◌, ◌∷◌, ◌⊎◌, [], ℕ, List, Option, All, String, codes, string_bytes}
 use Rattle.std.specs.declared.alloc.Global.{Global}
 use Rattle.q4_flow.specs.Flow.{Took, TookFront}
 use Rattle.q4_machine.specs.declared.entry.Entry.{Entry}
 use Rattle.q4_machine.specs.History.{IsLegal}
-use Rattle.q4_machine.specs.Recorded.{opening}
+use Rattle.q4_machine.specs.Recorded.{opened_built_in}
 use Rattle.q4_tool.specs.declared.sessions.SessionEnd.{SessionEnd}
 use Rattle.q4_tool.specs.declared.sessions.SessionEnd.TheVariants as end
 use Rattle.q4_tool.specs.Sessions.{Session}
@@ -19,12 +19,14 @@ status_of end.ReadFault = 8
 status_of end.WriteFault = 7
 status_of end.Memory = 9
 
--- One session ran from the input to the output, over a legal history that begins with the empty built-in table.
+-- One session ran from the input to the output, over the one history of a desk that begins with the empty built-in
+-- table. All of it is the tool's own, by caller 0.
 pub record Ran (left left' : Option (List ℕ)) (ended : Type 0) (written written' : Option (List ℕ)) (status : ℕ) : Type 0 where
   pub history : List Entry
   pub legal : IsLegal history
+  pub by_zero : All (λ e. e.caller ≡ 0) history
   pub how : SessionEnd
-  pub session : Session 0 (opening ∷ []) history left left' ended written written' how
+  pub session : Session 0 (opened_built_in ∷ []) history left left' ended written written' how
   pub status_is : status ≡ status_of how
 
 -- A line was written and nothing was read; after a failed write the status is 7.

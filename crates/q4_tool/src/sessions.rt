@@ -1,11 +1,10 @@
 ghost use Rattle.std.specs.Prelude.{◌≡◌, ◌≢◌, ℕ, Some, None, IsSome, IsTrue};
-ghost use Rattle.q4_flow.specs.Flow.{Rose};
 ghost use Rattle.q4_machine.specs.History.{IsLegal};
 ghost use Rattle.q4_machine.specs.Parts.{IsInOrder, insert_answer, wait_answer, end_answer};
 ghost use Rattle.q4_proto.specs.declared.reply.Outcome.TheVariants as outcome;
 ghost use Rattle.q4_proto.specs.Text.{text, code, IsOutcome};
 ghost use Rattle.q4_tool.specs.Exchanges.{answer_outcome, fault_outcome};
-ghost use Rattle.q4_tool.specs.Sessions.{Session, Conversation, WriteCause};
+ghost use Rattle.q4_tool.specs.Sessions.{Session, Conversation, ReadCause, WriteCause};
 ghost use Rattle.q4_tool.specs.Answering.{Answering, Told, TellCause, LastReply, LastCause};
 
 use q4_flow::{LineEnd, Lines, Sink, Source, WriteFailed};
@@ -164,7 +163,7 @@ fn converse<K: Desk, S: Source, W: Sink>(
     ensures current { K.current desk.new ≡ K.current desk.old }
     ensures conversation { (s : ℕ) → K.current desk.old ≡ Some s → Conversation (K.caller desk.old) s (K.seen desk.old) (K.seen desk.new)
         (S.left source.old) (S.left source.new) (IsTrue (S.ended source.new)) (W.written sink.old) (W.written sink.new) result }
-    ensures read_cause { result ≡ SessionEnd.ReadFault → Rose (S.faults source.old) (S.faults source.new) }
+    ensures read_cause { ReadCause (S.faults source.old) (S.faults source.new) result }
     ensures write_cause { WriteCause (W.faults sink.old) (W.faults sink.new) result }
 {
     let Ok(mut lines) = Lines::new(alloc) else {
@@ -203,7 +202,7 @@ pub fn session<K: Desk, S: Source, W: Sink>(
     ensures session { Session (K.caller desk.old) (K.seen desk.old) (K.seen desk.new)
         (S.left source.old) (S.left source.new) (IsTrue (S.ended source.new)) (W.written sink.old) (W.written sink.new) result }
 
-    ensures read_cause { result ≡ SessionEnd.ReadFault → Rose (S.faults source.old) (S.faults source.new) }
+    ensures read_cause { ReadCause (S.faults source.old) (S.faults source.new) result }
     ensures write_cause { WriteCause (W.faults sink.old) (W.faults sink.new) result }
 {
     match desk.open() {

@@ -1,6 +1,7 @@
 use Rattle.std.proofs.Common.{◌≡◌, [], Ok, Err, refl, sym, subst, append-nil}
 use Rattle.q4_proto.specs.declared.reply.Outcome.TheVariants as outcome
 use Rattle.q4_proto.specs.declared.command.Command.TheVariants.{Quit}
+use Rattle.q4_proto.proofs.Exact.{spelled_fits}
 use Rattle.q4_tool.specs.Exchanges.{fault_outcome}
 use Rattle.q4_tool.specs.Answering.{Told}
 use Rattle.q4_tool.proofs.sessions.answer.Goals as goal
@@ -22,3 +23,8 @@ returns-in-Err-clause-answering g c = λ s is. record {
   exchange = record { read = Err c.in-Err.fault; reads = c.in-Err.ensures; does = (refl, refl) };
   told = subst (λ out. Told (g.W.Sink.written c.args.sink.now) (g.W.Sink.written c.tell-in-Err.new.sink) out c.tell-in-Err.result) c.refusal.ensures c.tell-in-Err.ensures.told;
 }
+
+pub insert-requires-clause-fits : goal.insert-requires-clause-fits
+insert-requires-clause-fits g c =
+    let spells = rw c.in-Ok-Insert.field-0-is at c.in-Ok-Insert.ensures in
+    spelled_fits spells.1.0 c.in-Ok-Insert.row spells.1.2

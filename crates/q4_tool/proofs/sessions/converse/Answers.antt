@@ -1,9 +1,11 @@
 use Rattle.std.proofs.Common.{◌≡◌, ◌≢◌, ◌∙◌, [], List, ℕ, Some, None, refl, sym, ap, subst, arith, IsTrue}
 use Rattle.q4_flow.specs.declared.lines.LineEnd.TheVariants as line
+use Rattle.q4_flow.specs.Reading.{Reading}
+use Rattle.q4_flow.specs.Lines.{IsOpenLine}
 use Rattle.q4_flow.proofs.Known.{gave_nothing}
 use Rattle.q4_tool.specs.declared.sessions.SessionEnd.TheVariants as end
 use Rattle.q4_tool.specs.declared.sessions.Answered.TheVariants as answered
-use Rattle.q4_tool.proofs.Conversing.{no_line, takes_of, answering_as, cut_as, goes_on_more, ends_by_quit, ends_by_fault, ends_silently, ends_by_words, stays_at_next}
+use Rattle.q4_tool.proofs.Conversing.{Conversing, no_line, takes_of, answering_as, cut_as, goes_on_more, ends_by_quit, ends_by_fault, ends_silently, ends_by_words, stays_at_next, stays_at_line}
 use Rattle.q4_tool.proofs.sessions.converse.Goals as goal
 
 pub returns-in_default-clause-conversation : goal.returns-in_default-clause-conversation
@@ -21,8 +23,8 @@ loop-desk-preserved g c = record {
       let inv = c.loop-desk.invariant in
       let takes = takes_of c.loop-desk.lines c.next.new.self _ _ _ line.Line c.in-Line.ensures.cut inv.running in
       let answering = answering_as _ _ s _ _ _ _ _ answered.Next inv.caller (c.in-Next.ensures.answering s (inv.current ∙ is)) in
-      goes_on_more _ s _ _ _ _ _ _ _ c.next.new.self.pending _ _ _ takes.0 c.line.result.now (inv.so_far s is) takes.1 (cut_as _ c.next.new.self.line c.line.result.now c.next.new.self.pending c.line.ensures takes.2.0) answering;
-  later = let a = c.loop-desk.invariant.later in let b = c.next.ensures.later in omega (arith, a, b);
+      goes_on_more _ s _ _ _ _ _ _ _ c.next.new.self.pending _ _ _ takes.0 c.line.result.now (inv.so_far s is) takes.1 (cut_as _ c.next.new.self.line c.line.result.now c.next.new.self.pending c.line.ensures takes.2.0) (subst IsOpenLine (sym c.line.ensures) takes.2.1) answering;
+  read_stayed = stays_at_line _ _ c.in-Line.ensures.stayed ∙ c.loop-desk.invariant.read_stayed;
   stayed = stays_at_next _ _ c.in-Next.ensures.cause ∙ c.loop-desk.invariant.stayed;
 }
 
@@ -31,14 +33,14 @@ returns-in-Quit-clause-conversation g c = λ s is.
     let inv = c.loop-desk.invariant in
     let takes = takes_of c.loop-desk.lines c.next.new.self _ _ _ line.Line c.in-Line.ensures.cut inv.running in
     let answering = answering_as _ _ s _ _ _ _ _ answered.Quit inv.caller (c.in-Quit.ensures.answering s (inv.current ∙ is)) in
-    ends_by_quit _ s _ _ _ _ _ _ _ _ c.next.new.self.pending _ _ _ takes.0 c.line.result.now (inv.so_far s is) takes.1 (cut_as _ c.next.new.self.line c.line.result.now c.next.new.self.pending c.line.ensures takes.2.0) answering
+    ends_by_quit _ s _ _ _ _ _ _ _ _ c.next.new.self.pending _ _ _ takes.0 c.line.result.now (inv.so_far s is) takes.1 (cut_as _ c.next.new.self.line c.line.result.now c.next.new.self.pending c.line.ensures takes.2.0) (subst IsOpenLine (sym c.line.ensures) takes.2.1) answering
 
 pub returns-in-WriteFault-clause-conversation : goal.returns-in-WriteFault-clause-conversation
 returns-in-WriteFault-clause-conversation g c = λ s is.
     let inv = c.loop-desk.invariant in
     let takes = takes_of c.loop-desk.lines c.next.new.self _ _ _ line.Line c.in-Line.ensures.cut inv.running in
     let answering = answering_as _ _ s _ _ _ _ _ answered.WriteFault inv.caller (c.in-WriteFault.ensures.answering s (inv.current ∙ is)) in
-    ends_by_fault _ s _ _ _ _ _ _ _ _ c.next.new.self.pending _ _ _ takes.0 c.line.result.now (inv.so_far s is) takes.1 (cut_as _ c.next.new.self.line c.line.result.now c.next.new.self.pending c.line.ensures takes.2.0) answering
+    ends_by_fault _ s _ _ _ _ _ _ _ _ c.next.new.self.pending _ _ _ takes.0 c.line.result.now (inv.so_far s is) takes.1 (cut_as _ c.next.new.self.line c.line.result.now c.next.new.self.pending c.line.ensures takes.2.0) (subst IsOpenLine (sym c.line.ensures) takes.2.1) answering
 
 pub returns-in-End-clause-conversation : goal.returns-in-End-clause-conversation
 returns-in-End-clause-conversation g c = λ s is.
@@ -74,3 +76,16 @@ returns-in-Memory-clause-conversation g c = λ s is.
     let takes = takes_of c.loop-desk.lines c.next.new.self _ _ _ line.Memory c.in-Memory.ensures.cut inv.running in
     let so_far = inv.so_far s is in
     ends_by_words _ s _ _ _ _ _ _ c.loop-desk.lines.pending _ _ _ takes.0 end.Memory c.last_reply-in-Memory.result so_far takes.1 so_far.goes_on (λ e. cc e) c.last_reply-in-Memory.ensures.reply
+
+pub loop-desk-init : goal.loop-desk-init
+loop-desk-init g c = record {
+  in_order = c.requires.in_order;
+  caller = refl;
+  current = refl;
+  running = ap (λ (r : Reading). r.stopped) c.in-Ok.ensures;
+  so_far = λ s is.
+      let start = no_line (g.K.Desk.caller c.args.desk.now) s (g.K.Desk.seen c.args.desk.now) (g.S.Source.left c.args.source.now) (g.W.Sink.written c.args.sink.now) in
+      subst (λ (pending : List ℕ). Conversing (g.K.Desk.caller c.args.desk.now) s (g.K.Desk.seen c.args.desk.now) (g.K.Desk.seen c.args.desk.now) (g.S.Source.left c.args.source.now) (g.S.Source.left c.args.source.now) pending (g.W.Sink.written c.args.sink.now) (g.W.Sink.written c.args.sink.now)) (sym (ap (λ (r : Reading). r.pending) c.in-Ok.ensures)) start;
+  read_stayed = refl;
+  stayed = refl;
+}

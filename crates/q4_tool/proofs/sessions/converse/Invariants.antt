@@ -13,7 +13,7 @@ invariant-loop-desk g l = record {
   running : l.lines.stopped ≡ None;
   so_far : (s : ℕ) → g.K.Desk.current l.fn.desk ≡ Some s → Conversing (g.K.Desk.caller l.fn.desk) s (g.K.Desk.seen l.fn.desk) (g.K.Desk.seen l.desk)
       (g.S.Source.left l.fn.source) (g.S.Source.left l.source) l.lines.pending (g.W.Sink.written l.fn.sink) (g.W.Sink.written l.sink);
-  later : g.S.Source.faults l.fn.source ≤ g.S.Source.faults l.source;
+  read_stayed : g.S.Source.faults l.source ≡ g.S.Source.faults l.fn.source;
   stayed : g.W.Sink.faults l.sink ≡ g.W.Sink.faults l.fn.sink;
 }
 

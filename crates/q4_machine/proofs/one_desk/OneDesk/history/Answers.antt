@@ -1,0 +1,4 @@
+use Rattle.q4_machine.proofs.one_desk.OneDesk.history.Goals as goal
+
+pub returns-clause-settled : goal.returns-clause-settled
+returns-clause-settled c = λ place. rw c.history.ensures (c.self.invariant.settled place)
