@@ -1,0 +1,4 @@
+pub mod Tree
+pub mod Grammar
+pub mod Machine
+pub mod Postfix

@@ -1,0 +1,4 @@
+//! Conditions on rows: read from a text, met by a row or not, and written again.
+#![tactic(auto)]
+
+mod tree;
