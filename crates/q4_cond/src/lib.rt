@@ -1,4 +1,5 @@
 //! Conditions on rows: read from a text, met by a row or not, and written again.
 #![tactic(auto)]
 
+mod token;
 mod tree;

@@ -1,4 +1,4 @@
-use q4_value::Words;
+use q4_value::Bytes;
 
 /// An operator between two operands.
 #[derive(Clone, Copy, Debug, PartialEq, Eq)]
@@ -25,7 +25,8 @@ pub enum Atom {
     Column(usize),
     /// A number, at most 2^127 - 1.
     Number(i128),
-    Text(Words),
+    /// The bytes of a text.
+    Text(Bytes),
 }
 
 /// A step of a condition in postfix order: an atom, or an operator behind its operands.
@@ -47,6 +48,13 @@ pub enum Token {
     Close,
     /// No token of the language.
     Bad,
+}
+
+/// A token at the front of a text, and how many bytes it has.
+#[derive(Drop)]
+pub struct Front {
+    pub token: Token,
+    pub size: usize,
 }
 
 /// What is begun and waits for the operand behind it.
