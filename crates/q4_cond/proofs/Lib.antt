@@ -3,3 +3,4 @@ pub mod Complete
 pub mod Sound
 pub mod Verdicts
 pub mod Lexing
+pub mod Taking

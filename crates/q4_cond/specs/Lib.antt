@@ -3,3 +3,4 @@ pub mod Tree
 pub mod Grammar
 pub mod Machine
 pub mod Postfix
+pub mod Reading

@@ -1,5 +1,5 @@
 -- The states of the reader, which its own functions are described by. No public clause cites them.
-use Rattle.std.specs.Prelude.{ℕ, zero, suc, ◌+◌, List, [], ◌∷◌, ◌++◌, Option, Some, None, nat_le, nat_lt, if◌then◌else◌}
+use Rattle.std.specs.Prelude.{◌≡◌, ◌≤◌, Bool, true, false, ℕ, zero, suc, ◌+◌, List, [], ◌∷◌, ◌++◌, Option, Some, None, nat_le, nat_lt, if◌then◌else◌}
 use Rattle.std.specs.Option.{option_and_then}
 use Rattle.q4_cond.specs.declared.tree.Operator.{Operator}
 use Rattle.q4_cond.specs.declared.tree.Operator.TheVariants.{Or, And, Equal, Unequal, Below, AtMost, Above, AtLeast, Add, Subtract, Multiply, Divide, Remainder}
@@ -9,6 +9,8 @@ use Rattle.q4_cond.specs.declared.tree.Token.{Token}
 use Rattle.q4_cond.specs.declared.tree.Token.TheVariants.{Operand, Sign, Not, Open, Close, Bad}
 use Rattle.q4_cond.specs.declared.tree.Frame.{Frame}
 use Rattle.q4_cond.specs.declared.tree.Frame.TheVariants.{Pending, Inverting, Negating, Group}
+use Rattle.q4_cond.specs.declared.reader.Step.{Step}
+use Rattle.q4_cond.specs.declared.reader.Step.TheVariants.{Taken, Refused, TooDeep}
 use Rattle.q4_cond.specs.Tree.{level_of, left_level, right_level}
 
 -- the reader wants an operand, or has one; with its frames, the innermost first, and the nodes that are done
@@ -114,3 +116,19 @@ ended (f ∷ fs) out = None
 abbrev pub accepted : State → Option (List Node)
 accepted (Wants fs out) = None
 accepted (Has fs out) = ended (kept_frames 1 fs) (out ++ closed_nodes 1 fs)
+
+abbrev pub state_of : Bool → List Frame → List Node → State
+state_of true fs out = Wants fs out
+state_of false fs out = Has fs out
+
+-- what the reader's answer to a token says
+abbrev pub StepSays : State → Token → State → Step → Type 0
+StepSays s tok new Taken = step 32 s tok ≡ Some new
+StepSays s tok new Refused = (n : ℕ) → step n s tok ≡ None
+StepSays s tok new TooDeep = (step 32 s tok ≡ None) × (n : ℕ) × (32 ≤ n) × (next : State) × (step n s tok ≡ Some next)
+
+-- the same of a construct that is opened
+abbrev pub OpenSays : Frame → List Frame → List Node → State → Step → Type 0
+OpenSays f fs out new Taken = opened 32 f fs out ≡ Some new
+OpenSays f fs out new Refused = ⊥
+OpenSays f fs out new TooDeep = (opened 32 f fs out ≡ None) × (n : ℕ) × (32 ≤ n) × (opened n f fs out ≡ Some (Wants (f ∷ fs) out))
