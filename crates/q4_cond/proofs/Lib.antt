@@ -4,3 +4,4 @@ pub mod Sound
 pub mod Verdicts
 pub mod Lexing
 pub mod Taking
+pub mod Scanning

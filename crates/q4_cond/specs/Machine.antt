@@ -132,3 +132,10 @@ abbrev pub OpenSays : Frame → List Frame → List Node → State → Step → 
 OpenSays f fs out new Taken = opened 32 f fs out ≡ Some new
 OpenSays f fs out new Refused = ⊥
 OpenSays f fs out new TooDeep = (opened 32 f fs out ≡ None) × (n : ℕ) × (32 ≤ n) × (opened n f fs out ≡ Some (Wants (f ∷ fs) out))
+
+-- the nodes of the whole condition, where it may end here; no token is the empty condition
+abbrev pub finished : State → Option (List Node)
+finished (Wants [] []) = Some []
+finished (Wants [] (n ∷ ns)) = None
+finished (Wants (f ∷ fs) ns) = None
+finished (Has fs ns) = accepted (Has fs ns)

@@ -3,6 +3,8 @@ use Rattle.std.specs.Prelude.{◌≡◌, ℕ, ◌+◌, ◌<◌, ◌≤◌, List,
 use Rattle.q4_value.specs.declared.column.Column.{Column}
 use Rattle.q4_value.specs.declared.column.Kind.{Kind}
 use Rattle.q4_value.specs.declared.column.Kind.TheVariants.{Int, Words}
+use Rattle.q4_cond.specs.declared.fault.CondFault.{CondFault}
+use Rattle.q4_cond.specs.declared.fault.CondFault.TheVariants.{Long, At, Deep, NoColumn, Kinds, Memory}
 use Rattle.q4_cond.specs.declared.tree.Operator.{Operator}
 use Rattle.q4_cond.specs.declared.tree.Operator.TheVariants.{Or, And, Equal, Unequal, Below, AtMost, Above, AtLeast, Add, Subtract, Multiply, Divide, Remainder}
 use Rattle.q4_cond.specs.declared.tree.Atom.{Atom}
@@ -152,3 +154,12 @@ pub record IsKinds (columns : List Column) (text : List ℕ) (p : ℕ) : Type 0 
   pub spells : Spells columns text tree
   pub known : first_unknown (length columns) (tokens_of (names_of columns) text) ≡ None
   pub kinds : first_marked (misplaced_in (kinds_of columns) tree) (atom_places (tokens_of (names_of columns) text)) ≡ Some p
+
+-- what each fault says of the text
+abbrev pub IsFault : List Column → List ℕ → CondFault → Type 0
+IsFault columns text Long = 1024 < length text
+IsFault columns text (At p) = IsAt columns text p
+IsFault columns text (Deep p) = IsDeep columns text p
+IsFault columns text (NoColumn p) = IsNoColumn columns text p
+IsFault columns text (Kinds p) = IsKinds columns text p
+IsFault columns text Memory = Unit {0}

@@ -1,6 +1,6 @@
 //! Reads tokens one after the other, and puts a condition's nodes in postfix order.
-ghost use Rattle.std.specs.Prelude.{◌≡◌, [], ◌∷◌, ◌++◌, OnOk, IfOk, MatchOption, slice_get};
-ghost use Rattle.q4_cond.specs.Machine.{Wants, Has, open_count, wanted_level, kept_frames, closed_nodes, state_of, StepSays, OpenSays};
+ghost use Rattle.std.specs.Prelude.{◌≡◌, Some, None, [], ◌∷◌, ◌++◌, OnOk, IfOk, MatchOption, slice_get};
+ghost use Rattle.q4_cond.specs.Machine.{Wants, Has, open_count, wanted_level, kept_frames, closed_nodes, state_of, finished, StepSays, OpenSays};
 
 use crate::frames::Frames;
 use crate::tree::{Atom, Frame, Node, Operator, Token};
@@ -55,6 +55,19 @@ impl Reader {
             frames: Frames::new(alloc),
             nodes: Vec::new(alloc),
         }
+    }
+
+    /// The nodes of the whole condition, if it may end here.
+    pub fn finish(mut self) -> Result<Option<Vec<Node>>, NoMemory>
+        ensures { IfOk result (λ found. MatchOption found (finished (state_of self.wants self.frames self.nodes.items) ≡ None) (λ nodes. finished (state_of self.wants self.frames self.nodes.items) ≡ Some nodes.items)) }
+    {
+        if self.wants {
+            let empty = self.frames.innermost().is_none() && self.nodes.is_empty();
+            return Ok(if empty { Some(self.nodes) } else { None });
+        }
+        close_frames(&mut self.frames, &mut self.nodes, 1)?;
+        let closed = self.frames.innermost().is_none();
+        Ok(if closed { Some(self.nodes) } else { None })
     }
 
     /// Takes one token.
