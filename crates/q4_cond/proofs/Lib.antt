@@ -5,3 +5,5 @@ pub mod Verdicts
 pub mod Lexing
 pub mod Taking
 pub mod Scanning
+pub mod Marking
+pub mod Finish

@@ -12,6 +12,7 @@ use Rattle.q4_cond.specs.declared.tree.Frame.{Frame}
 use Rattle.q4_cond.specs.declared.tree.Frame.TheVariants.{Inverting, Negating, Group}
 use Rattle.q4_cond.specs.Tree.{Tree, Simple, Two, NotOf, MinusOf, postfix}
 use Rattle.q4_cond.specs.Postfix.{build, tree_of, first_tree, nodes_of}
+use Rattle.q4_cond.specs.Condition.{tree_of-postfix}
 use Rattle.q4_cond.specs.Grammar.{Phrase, IsCondition, nothing, whole, BeginsWithin, Begins}
 use Rattle.q4_cond.specs.Machine.{State, Wants, Has, wanted_level, open_count, kept_frames, closed_nodes, opened, signed, step, run, ended, accepted}
 use Rattle.q4_cond.proofs.Steps.{run-append, run_then, run_step, kept-tight, closed-tight}
@@ -150,19 +151,6 @@ before_none n _ start = refl
 -- only the empty list leaves the reader where it began
 pub unbegun : (n : ℕ) (ts : List Token) → run n (Wants [] []) ts ≡ Some (Wants [] []) → ts ≡ []
 unbegun n ts e = before_none n ts (run_sound n ts (Wants [] []) (Wants [] []) [] start e)
-
-pub build-postfix : (t : Tree) (rest : List Node) (st : List Tree) → build (postfix t ++ rest) st ≡ build rest (t ∷ st)
-build-postfix (Simple a) rest st = refl
-build-postfix (Two op t u) rest st =
-    let flat : (postfix t ++ (postfix u ++ Binary op ∷ [])) ++ rest ≡ postfix t ++ (postfix u ++ (Binary op ∷ rest)) = simp append_assoc in
-    ap (λ l. build l st) flat
-    ∙ (build-postfix t (postfix u ++ (Binary op ∷ rest)) st ∙ build-postfix u (Binary op ∷ rest) (t ∷ st))
-build-postfix (NotOf t) rest st = ap (λ l. build l st) (append_assoc (postfix t) (Inverted ∷ []) rest) ∙ build-postfix t (Inverted ∷ rest) st
-build-postfix (MinusOf t) rest st = ap (λ l. build l st) (append_assoc (postfix t) (Negated ∷ []) rest) ∙ build-postfix t (Negated ∷ rest) st
-
--- the nodes of a tree stand for it
-pub tree_of-postfix : (t : Tree) → tree_of (postfix t) ≡ Some t
-tree_of-postfix t = ap first_tree (ap (λ l. build l []) (sym (append-nil (postfix t))) ∙ build-postfix t [] [])
 
 pub postfix_same : (t u : Tree) → postfix t ≡ postfix u → t ≡ u
 postfix_same t u e =

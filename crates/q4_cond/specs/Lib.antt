@@ -5,3 +5,5 @@ pub mod Machine
 pub mod Postfix
 pub mod Reading
 pub mod Scanned
+pub mod Marks
+pub mod Condition

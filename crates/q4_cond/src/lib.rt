@@ -1,11 +1,14 @@
 //! Conditions on rows: read from a text, met by a row or not, and written again.
 #![tactic(auto)]
 
+mod cond;
 mod fault;
 mod frames;
+mod kinds;
 mod reader;
 mod scan;
 mod token;
 mod tree;
 
+pub use cond::{Cond, read};
 pub use fault::CondFault;

@@ -1,0 +1,139 @@
+ghost use Rattle.std.specs.Prelude.{◌≡◌, ◌<◌, ◌≤◌, length, IfOk, MatchResult, map};
+ghost use Rattle.q4_cond.specs.Reading.{kinds_of, IsRead, IsFault};
+
+use crate::kinds::first_misplaced;
+use crate::scan::scan_text;
+use crate::tree::{Atom, Node};
+use crate::CondFault;
+use q4_value::{Bytes, Column, Kind, NoMemory};
+use std::alloc::Global;
+use std::marker::Model;
+
+/// The most bytes that a condition's text may have.
+const LONGEST: usize = 1024;
+
+/// A condition on the rows of a table. A contract sees its tree and the kinds of its columns.
+#[derive(Drop)]
+pub struct Cond {
+    /// The tree in postfix order; none for the empty condition.
+    nodes: Vec<Node>,
+    kinds: Vec<Kind>,
+}
+
+impl Model for Cond {
+    ghost use Rattle.std.specs.Prelude.{◌≡◌, ◌≤◌, length};
+    ghost use Rattle.std.specs.Coded.{codes};
+    ghost use Rattle.q4_cond.specs.Condition.{Condition, condition_code};
+    ghost use Rattle.q4_cond.specs.Postfix.{tree_of, nodes_of};
+    ghost use Rattle.q4_cond.specs.contracts.tree.Node as node;
+    ghost use Rattle.q4_value.specs.contracts.column.Kind as kind;
+
+    ghost Value = { Condition };
+
+    ghost coded = { condition_code (Prim.hlevel (codes, node.the_row.coded, kind.the_row.coded)) };
+
+    ghost view = { λ c. record { tree = tree_of c.nodes.items; kinds = c.kinds.items } };
+
+    ghost invariant = { λ c. (nodes_of (tree_of c.nodes.items) ≡ c.nodes.items) × (length c.nodes.items ≤ 1024) };
+}
+
+impl Atom {
+    fn copy(&self, alloc: Global) -> Result<Atom, NoMemory>
+        ensures { IfOk result (λ atom. atom ≡ self.now) }
+    {
+        match self {
+            Atom::Column(column) => Ok(Atom::Column(*column)),
+            Atom::Number(number) => Ok(Atom::Number(*number)),
+            Atom::Text(text) => {
+                let mut copied = Bytes::new(alloc);
+                copied.push(text.as_slice())?;
+                Ok(Atom::Text(copied))
+            }
+        }
+    }
+}
+
+impl Node {
+    fn copy(&self, alloc: Global) -> Result<Node, NoMemory>
+        ensures { IfOk result (λ node. node ≡ self.now) }
+    {
+        match self {
+            Node::Leaf(atom) => Ok(Node::Leaf(atom.copy(alloc)?)),
+            Node::Binary(operator) => Ok(Node::Binary(*operator)),
+            Node::Inverted => Ok(Node::Inverted),
+            Node::Negated => Ok(Node::Negated),
+        }
+    }
+}
+
+fn copy_nodes(alloc: Global, nodes: &[Node]) -> Result<Vec<Node>, NoMemory>
+    ensures { IfOk result (λ copied. copied.items ≡ nodes.now) }
+{
+    let mut copied = Vec::new(alloc);
+    for node in nodes {
+        let node = node.copy(alloc)?;
+        if copied.push(node).is_err() {
+            return Err(NoMemory);
+        }
+    }
+    Ok(copied)
+}
+
+fn copy_kinds(alloc: Global, kinds: &[Kind]) -> Result<Vec<Kind>, NoMemory>
+    ensures { IfOk result (λ copied. copied.items ≡ kinds.now) }
+{
+    let mut copied = Vec::new(alloc);
+    for kind in kinds {
+        if copied.push(*kind).is_err() {
+            return Err(NoMemory);
+        }
+    }
+    Ok(copied)
+}
+
+fn kinds_of(alloc: Global, columns: &[Column]) -> Result<Vec<Kind>, NoMemory>
+    ensures { IfOk result (λ kinds. kinds.items ≡ kinds_of columns.now) }
+{
+    let mut kinds = Vec::new(alloc);
+    for column in columns {
+        if kinds.push(column.kind).is_err() {
+            return Err(NoMemory);
+        }
+    }
+    Ok(kinds)
+}
+
+impl Cond {
+    /// The same condition, in memory of its own.
+    pub fn copy(&self, alloc: Global) -> Result<Cond, NoMemory>
+        ensures { IfOk result (λ cond. cond ≡ self.now) }
+    {
+        let nodes = copy_nodes(alloc, &self.nodes)?;
+        let kinds = copy_kinds(alloc, &self.kinds)?;
+        Ok(Cond { nodes, kinds })
+    }
+}
+
+/// Reads a condition on rows of these columns.
+pub fn read(alloc: Global, text: &str, columns: &[Column]) -> Result<Cond, CondFault>
+    ensures { MatchResult result (λ cond. IsRead columns.now text.now cond.tree × (cond.kinds ≡ kinds_of columns.now)) (λ fault. IsFault columns.now text.now fault) }
+{
+    let bytes = text.as_bytes();
+    if bytes.len() > LONGEST {
+        return Err(CondFault::Long);
+    }
+    let scan = scan_text(alloc, columns, bytes)?;
+    let unknown = scan.unknown;
+    let atoms = scan.atoms;
+    let Some(nodes) = scan.reader.finish()? else {
+        return Err(CondFault::At(bytes.len() as u32));
+    };
+    if let Some(place) = unknown {
+        return Err(CondFault::NoColumn(place));
+    }
+    let kinds = kinds_of(alloc, columns)?;
+    if let Some(place) = first_misplaced(&kinds, &nodes, &atoms) {
+        return Err(CondFault::Kinds(place));
+    }
+    Ok(Cond { nodes, kinds })
+}
