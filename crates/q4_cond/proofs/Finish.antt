@@ -133,3 +133,6 @@ read_invariant columns text s atoms unknown nodes short r e =
     let few = condition_short 32 (bare ts) b.tree b.spells.condition in
     let small : length nodes ≤ 1024 = omega (arith, few, ap length b.same, length-map ts (λ p. p.token), tokens_short (names_of columns) 0 0 text) in
     (ap nodes_of (ap tree_of b.same ∙ tree_of-nodes_of b.tree) ∙ sym b.same, small)
+
+pub marked_parts : (k k' : List Kind) (n n' : List Node) (p p' : List ℕ) (o : Option ℕ) → o ≡ first_marked (strays k false n) p → k ≡ k' → n ≡ n' → p ≡ p' → o ≡ first_marked (strays k' false n') p'
+marked_parts k k' n n' p p' o e f g h = e ∙ (ap₂ (λ x y. first_marked (strays x false y) p) f g ∙ ap (first_marked (strays k' false n')) h)

@@ -7,3 +7,5 @@ pub mod Reading
 pub mod Scanned
 pub mod Marks
 pub mod Condition
+pub mod Values
+pub mod Execution

@@ -9,6 +9,7 @@ mod reader;
 mod scan;
 mod token;
 mod tree;
+mod value;
 
 pub use cond::{Cond, read};
 pub use fault::CondFault;
