@@ -7,3 +7,4 @@ pub mod Taking
 pub mod Scanning
 pub mod Marking
 pub mod Finish
+pub mod Meaning

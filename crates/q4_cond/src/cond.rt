@@ -1,11 +1,13 @@
 ghost use Rattle.std.specs.Prelude.{◌≡◌, ◌<◌, ◌≤◌, length, IfOk, MatchResult, map};
 ghost use Rattle.q4_cond.specs.Reading.{kinds_of, IsRead, IsFault};
+ghost use Rattle.q4_cond.specs.Values.{meets};
 
 use crate::kinds::first_misplaced;
 use crate::scan::scan_text;
 use crate::tree::{Atom, Node};
 use crate::CondFault;
-use q4_value::{Bytes, Column, Kind, NoMemory};
+use crate::value::execute;
+use q4_value::{Bytes, Column, Kind, NoMemory, Row};
 use std::alloc::Global;
 use std::marker::Model;
 
@@ -136,4 +138,18 @@ pub fn read(alloc: Global, text: &str, columns: &[Column]) -> Result<Cond, CondF
         return Err(CondFault::Kinds(place));
     }
     Ok(Cond { nodes, kinds })
+}
+
+/// Whether the row meets the condition: its value is present and not 0. It takes no memory, and looks at each node once.
+pub fn met(cond: &Cond, row: &Row) -> bool
+    ensures { result ≡ meets row.now cond.now.tree }
+{
+    let nodes = cond.nodes.as_slice();
+    if nodes.len() <= 16 {
+        execute::<16>(nodes, row)
+    } else if nodes.len() <= 128 {
+        execute::<128>(nodes, row)
+    } else {
+        execute::<1024>(nodes, row)
+    }
 }

@@ -11,5 +11,5 @@ mod token;
 mod tree;
 mod value;
 
-pub use cond::{Cond, read};
+pub use cond::{Cond, met, read};
 pub use fault::CondFault;

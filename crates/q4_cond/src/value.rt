@@ -233,3 +233,49 @@ fn pop<'a, const N: usize>(stack: &mut ArrayVec<Operand<'a>, N>) -> Option<Opera
 {
     stack.pop()
 }
+
+/// Takes a node's operands from the stack, and puts its value there.
+fn execute_node<'a, const N: usize>(stack: &mut ArrayVec<Operand<'a>, N>, node: &'a Node, row: &'a Row)
+    requires { array_vec_len stack.old < N }
+    ensures done { meanings stack.new.items ≡ execute_node row.now node.now (meanings stack.old.items) }
+    ensures len { array_vec_len stack.new ≤ array_vec_len stack.old + 1 }
+{
+    match node {
+        Node::Leaf(atom) => push(stack, atom_operand(atom, row)),
+        Node::Binary(operator) => {
+            let Some(right) = pop(stack) else {
+                return;
+            };
+            let Some(left) = pop(stack) else {
+                return;
+            };
+            push(stack, combined(*operator, left, right));
+        }
+        Node::Inverted => {
+            if let Some(operand) = pop(stack) {
+                push(stack, inverted(operand));
+            }
+        }
+        Node::Negated => {
+            if let Some(operand) = pop(stack) {
+                push(stack, opposite(operand));
+            }
+        }
+    }
+}
+
+/// Whether the value of these nodes is present and not 0, on a stack of room for N operands.
+pub fn execute<'a, const N: usize>(nodes: &'a [Node], row: &'a Row) -> bool
+    requires room { length nodes.now ≤ N }
+    requires small { N ≤ 1024 }
+    ensures { result ≡ verdict (execute row.now nodes.now []) }
+{
+    let mut stack: ArrayVec<Operand<'a>, N> = ArrayVec::new();
+    for node in nodes {
+        execute_node(&mut stack, node, row);
+    }
+    match pop(&mut stack) {
+        Some(operand) => is_true(operand),
+        None => true,
+    }
+}
