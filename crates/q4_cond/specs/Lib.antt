@@ -9,3 +9,4 @@ pub mod Marks
 pub mod Condition
 pub mod Values
 pub mod Execution
+pub mod Shown

@@ -7,9 +7,13 @@ mod frames;
 mod kinds;
 mod reader;
 mod scan;
+mod show;
 mod token;
 mod tree;
 mod value;
 
 pub use cond::{Cond, met, read};
 pub use fault::CondFault;
+
+#[cfg(test)]
+mod tests;
