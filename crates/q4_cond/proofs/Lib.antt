@@ -8,3 +8,4 @@ pub mod Scanning
 pub mod Marking
 pub mod Finish
 pub mod Meaning
+pub mod Showing

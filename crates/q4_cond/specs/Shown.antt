@@ -1,7 +1,7 @@
 -- The text of a condition.
 use Rattle.std.specs.Prelude.{◌≡◌, ℕ, ◌-◌, List, [], ◌∷◌, ◌++◌, length, map, reverse, Option, Some, None, ◌&&◌, ◌==◌, nat_le, if◌then◌else◌, slice_get, slice_index}
 use Rattle.std.specs.Fmt.{signed_decimal}
-use Rattle.q4_cond.specs.declared.show.Shown.{Shown}
+use Rattle.q4_cond.specs.declared.writing.Shown.{Shown}
 use Rattle.q4_cond.specs.declared.tree.Operator.{Operator}
 use Rattle.q4_cond.specs.declared.tree.Operator.TheVariants.{Or, And, Equal, Unequal, Below, AtMost, Above, AtLeast, Add, Subtract, Multiply, Divide, Remainder}
 use Rattle.q4_cond.specs.declared.tree.Atom.{Atom}

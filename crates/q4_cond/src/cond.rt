@@ -1,13 +1,16 @@
 ghost use Rattle.std.specs.Prelude.{◌≡◌, ◌<◌, ◌≤◌, length, IfOk, MatchResult, map};
 ghost use Rattle.q4_cond.specs.Reading.{kinds_of, IsRead, IsFault};
 ghost use Rattle.q4_cond.specs.Values.{meets};
+ghost use Rattle.q4_cond.specs.Tokens.{names_of};
+ghost use Rattle.q4_cond.specs.Shown.{condition_text};
 
 use crate::kinds::first_misplaced;
 use crate::scan::scan_text;
+use crate::writing::write_nodes;
 use crate::tree::{Atom, Node};
 use crate::CondFault;
 use crate::value::execute;
-use q4_value::{Bytes, Column, Kind, NoMemory, Row};
+use q4_value::{Bytes, Column, Kind, NoMemory, Row, Words};
 use std::alloc::Global;
 use std::marker::Model;
 
@@ -151,5 +154,18 @@ pub fn met(cond: &Cond, row: &Row) -> bool
         execute::<128>(nodes, row)
     } else {
         execute::<1024>(nodes, row)
+    }
+}
+
+/// The text of a condition on these columns, which are those that it was read with: parentheses stand only where
+/// the grammar needs them, and one space stands between two words or numbers.
+pub fn show(alloc: Global, cond: &Cond, columns: &[Column]) -> Result<Words, NoMemory>
+    ensures { IfOk result (λ words. words ≡ condition_text (names_of columns.now) cond.now.tree) }
+{
+    let bytes = write_nodes(alloc, &cond.nodes, columns)?;
+    match std::str::from_utf8(bytes.as_slice()) {
+        Ok(text) => Words::new(alloc, text),
+        // The names and texts of a condition that was read are UTF-8, and all else is ASCII.
+        Err(_) => Err(NoMemory),
     }
 }

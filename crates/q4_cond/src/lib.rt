@@ -7,12 +7,13 @@ mod frames;
 mod kinds;
 mod reader;
 mod scan;
-mod show;
+
 mod token;
 mod tree;
 mod value;
+mod writing;
 
-pub use cond::{Cond, met, read};
+pub use cond::{Cond, met, read, show};
 pub use fault::CondFault;
 
 #[cfg(test)]

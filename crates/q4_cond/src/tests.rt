@@ -190,3 +190,46 @@ fn rows_meet_conditions(rt: HostRuntime) -> Result<(), Fail> {
     }
     Ok(())
 }
+
+#[test]
+fn conditions_are_shown(rt: HostRuntime) -> Result<(), Fail> {
+    let cases = [
+        ("", ""),
+        ("not ( prio >= 5 ) or body = 'x'", "not prio>=5 or body='x'"),
+        ("n - (3 - 2) - 1", "n-(3-2)-1"),
+        ("n / (3 * 2) % 7", "n/(3*2)%7"),
+        ("(n / 3) * 2", "n/3*2"),
+        ("((n + 1)) * 2 < - (3)", "(n+1)*2<-3"),
+        ("- (n + 1) = 0", "-(n+1)=0"),
+        ("- - n = 0", "--n=0"),
+        ("not (not (n))", "not not n"),
+        ("(not n) = 1", "(not n)=1"),
+        ("not (n = 1)", "not n=1"),
+        ("not (n and 1)", "not(n and 1)"),
+        ("1 and (n or 2)", "1 and(n or 2)"),
+        ("(1 or n) or 2", "1 or n or 2"),
+        ("1 or (n or 2)", "1 or(n or 2)"),
+        ("(n < 2) < (3 > 1)", "(n<2)<(3>1)"),
+        ("body <> 'it''s' and 'ö' = body", "body<>'it''s'and'ö'=body"),
+        ("(((body))) = ()", "body="),
+        ("0 <= n", "0<=n"),
+    ];
+    let columns = columns(rt.alloc())?;
+    for (text, expected) in cases {
+        let Ok(cond) = read(rt.alloc(), text, &columns) else {
+            return Err(Fail::from(text));
+        };
+        let Ok(shown) = show(rt.alloc(), &cond, &columns) else {
+            return Err(Fail::from(text));
+        };
+        assert_eq!(rt; shown.as_str(), expected, "{text}");
+        let Ok(again) = read(rt.alloc(), shown.as_str(), &columns) else {
+            return Err(Fail::from(text));
+        };
+        let Ok(twice) = show(rt.alloc(), &again, &columns) else {
+            return Err(Fail::from(text));
+        };
+        assert_eq!(rt; twice.as_str(), expected, "{text} again");
+    }
+    Ok(())
+}
