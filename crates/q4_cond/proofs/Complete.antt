@@ -49,7 +49,7 @@ one_operand n l f fs out tok ts t u e le p r =
       done = r.done;
       goes = run_step n tok ts (Wants fs out) (Wants (f ∷ fs) out) _ e (r.goes ∙ ap (λ k. Some (Has k r.done)) (sym (append_assoc r.frames (f ∷ []) fs)));
       tight = tight_push l r.frames f le r.tight;
-      ends = ap (λ m. r.done ++ m) (map-append frame_node r.frames (f ∷ [])) ∙ (sym (append_assoc r.done (map frame_node r.frames) (frame_node f ∷ [])) ∙ (ap (λ m. m ++ frame_node f ∷ []) r.ends ∙ (append_assoc out (postfix t) (frame_node f ∷ []) ∙ ap (λ m. out ++ m) (sym p))))
+      ends = ap (λ m. r.done ++ m) (map-append frame_node r.frames (f ∷ [])) ∙ (sym (append_assoc r.done (map frame_node r.frames) (frame_node f ∷ [])) ∙ (ap (λ m. m ++ frame_node f ∷ []) r.ends ∙ (append_assoc out (postfix t) (frame_node f ∷ []) ∙ ap (λ m. out ++ m) (sym p))));
     }
 
 pub complete : {n l : ℕ} {ts : List Token} {t : Tree} → Phrase n l ts t → (m : ℕ) (fs : List Frame) (out : List Node) → wanted_level fs ≤ l → open_count fs + n ≤ m → Reads m l fs out ts t
@@ -61,10 +61,10 @@ complete (group {n} {ts} {t} p) m fs out le room =
       frames = [];
       done = out ++ postfix t;
       goes = run_step m Open (ts ++ Close ∷ []) (Wants fs out) (Wants (Group ∷ fs) out) _ (opens m Group fs out few)
-        (run_then m ts (Close ∷ []) (Wants (Group ∷ fs) out) (Has (r.frames ++ Group ∷ fs) r.done) _ r.goes
+          (run_then m ts (Close ∷ []) (Wants (Group ∷ fs) out) (Has (r.frames ++ Group ∷ fs) r.done) _ r.goes
           (run_step m Close [] (Has (r.frames ++ Group ∷ fs) r.done) (Has fs (r.done ++ map frame_node r.frames)) _ (close_step m r.frames fs r.done r.tight) (ap (λ o. Some (Has fs o)) r.ends)));
       tight = tt;
-      ends = append-nil _
+      ends = append-nil _;
     }
 complete (minus {n} {ts} {t} p) m fs out le room =
     let few : open_count fs < m = omega arith in
@@ -77,14 +77,14 @@ complete (both {n} op {left} {right} {t} {u} p q) m fs out le room =
     let r = complete p m fs out (omega arith) room in
     let s = complete q m (Pending op ∷ fs) (out ++ postfix t) (omega arith) room in
     let at_sign : step m (Has (r.frames ++ fs) r.done) (Sign op) ≡ Some (Wants (Pending op ∷ fs) (out ++ postfix t)) =
-      operator_step m op r.frames fs r.done le r.tight ∙ ap (λ o. Some (Wants (Pending op ∷ fs) o)) r.ends in
+    operator_step m op r.frames fs r.done le r.tight ∙ ap (λ o. Some (Wants (Pending op ∷ fs) o)) r.ends in
     record {
       frames = s.frames ++ Pending op ∷ [];
       done = s.done;
       goes = run_then m left (Sign op ∷ right) (Wants fs out) (Has (r.frames ++ fs) r.done) _ r.goes
-        (run_step m (Sign op) right (Has (r.frames ++ fs) r.done) (Wants (Pending op ∷ fs) (out ++ postfix t)) _ at_sign (s.goes ∙ ap (λ k. Some (Has k s.done)) (sym (append_assoc s.frames (Pending op ∷ []) fs))));
+          (run_step m (Sign op) right (Has (r.frames ++ fs) r.done) (Wants (Pending op ∷ fs) (out ++ postfix t)) _ at_sign (s.goes ∙ ap (λ k. Some (Has k s.done)) (sym (append_assoc s.frames (Pending op ∷ []) fs))));
       tight = tight_push (level_of op) s.frames (Pending op) (omega arith) (tight_weaken (level_of op) (right_level op) s.frames (omega arith) s.tight);
-      ends = ap (λ k. s.done ++ k) (map-append frame_node s.frames (Pending op ∷ [])) ∙ (sym (append_assoc s.done (map frame_node s.frames) (Binary op ∷ [])) ∙ (ap (λ k. k ++ Binary op ∷ []) s.ends ∙ simp append_assoc))
+      ends = ap (λ k. s.done ++ k) (map-append frame_node s.frames (Pending op ∷ [])) ∙ (sym (append_assoc s.done (map frame_node s.frames) (Binary op ∷ [])) ∙ (ap (λ k. k ++ Binary op ∷ []) s.ends ∙ simp append_assoc));
     }
 complete (looser {n} {l} {ts} {t} p) m fs out le room =
     let r = complete p m fs out (omega arith) room in

@@ -67,7 +67,7 @@ all_read columns text s atoms unknown r =
     record {
       read = ap (λ l. run 32 (Wants [] []) (bare l)) ends ∙ r.read;
       places = r.places ∙ ap atom_places (sym ends);
-      unnamed = r.unnamed ∙ ap (first_unknown (length columns)) (sym ends)
+      unnamed = r.unnamed ∙ ap (first_unknown (length columns)) (sym ends);
     }
 
 -- a condition with these nodes

@@ -20,8 +20,9 @@ pub digits_grow : (n : ℕ) (bs : List ℕ) → MatchOption (digits_from n bs) (
 digits_grow n [] = omega arith
 digits_grow n (b ∷ bs) =
     elim (cases_Bool (is_digit b)) as (λ _. MatchOption (digits_from n (b ∷ bs)) (Unit {0}) (λ m. n ≤ m)) [
-      inl e ↦ subst (λ o. MatchOption o (Unit {0}) (λ m. n ≤ m)) (sym (cond-true (is_digit b) (digits_from (10 * n + (b - 48)) bs) None e)) (grow_from n (10 * n + (b - 48)) (digits_from (10 * n + (b - 48)) bs) (omega arith) (digits_grow (10 * n + (b - 48)) bs))
-    | inr e ↦ subst (λ o. MatchOption o (Unit {0}) (λ m. n ≤ m)) (sym (cond-false (is_digit b) (digits_from (10 * n + (b - 48)) bs) None e)) tt ]
+      | inl e ↦ subst (λ o. MatchOption o (Unit {0}) (λ m. n ≤ m)) (sym (cond-true (is_digit b) (digits_from (10 * n + (b - 48)) bs) None e)) (grow_from n (10 * n + (b - 48)) (digits_from (10 * n + (b - 48)) bs) (omega arith) (digits_grow (10 * n + (b - 48)) bs))
+      | inr e ↦ subst (λ o. MatchOption o (Unit {0}) (λ m. n ≤ m)) (sym (cond-false (is_digit b) (digits_from (10 * n + (b - 48)) bs) None e)) tt
+    ]
 
 numeral_large : (n : ℕ) (o : Option ℕ) → 2 ^ 127 ≤ n → MatchOption o (Unit {0}) (λ m. n ≤ m) → numeral o ≡ Bad
 numeral_large n None le h = refl

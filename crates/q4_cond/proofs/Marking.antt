@@ -145,9 +145,9 @@ pub marked_leaf : (kinds : List Kind) (before next : Bool) (nodes : List Node) (
 marked_leaf kinds before next nodes i leaf leaf' places n a o h at is e f g inv =
     let here : drop i nodes ≡ Leaf a ∷ drop (i + 1) nodes = drop_more nodes i n h ∙ ap (λ x. x ∷ drop (i + 1) nodes) (sym at ∙ is) in
     let now = ap (λ l. first_marked (strays kinds before l) (drop leaf places)) here
-      ∙ (ap (λ b. first_marked (b ∷ strays kinds (is_text kinds a) (drop (i + 1) nodes)) (drop leaf places)) e
-      ∙ (marked_next (strays kinds (is_text kinds a) (drop (i + 1) nodes)) (drop leaf places)
-      ∙ ap (first_marked (strays kinds (is_text kinds a) (drop (i + 1) nodes))) (drop-drop 1 leaf places))) in
+    ∙ (ap (λ b. first_marked (b ∷ strays kinds (is_text kinds a) (drop (i + 1) nodes)) (drop leaf places)) e
+    ∙ (marked_next (strays kinds (is_text kinds a) (drop (i + 1) nodes)) (drop leaf places)
+    ∙ ap (first_marked (strays kinds (is_text kinds a) (drop (i + 1) nodes))) (drop-drop 1 leaf places))) in
     ap₂ (λ x k. first_marked (strays kinds x (drop (i + 1) nodes)) (drop k places)) f g ∙ (sym now ∙ inv)
 
 passed : (kinds : List Kind) (before : Bool) (n : Node) (ns : List Node) → ((a : Atom) → n ≡ Leaf a → ⊥) → strays kinds before (n ∷ ns) ≡ strays kinds false ns

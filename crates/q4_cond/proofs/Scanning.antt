@@ -40,7 +40,7 @@ skipped names p b s (suc n) some =
 token_first : (names : List (List ℕ)) (p b : ℕ) (s : List ℕ) (f : Front) → (b ≡ 32 → ⊥) → f ≡ front_of names (b ∷ s) → 0 < f.size → tokens_from names 0 p (b ∷ s) ≡ record { place = p; token = f.token } ∷ tokens_from names 0 (p + f.size) (drop f.size (b ∷ s))
 token_first names p b s f ne e some =
     let head : token_here names p (b ∷ s) ≡ record { place = p; token = f.token } ∷ [] =
-      cond-false (eqb b 32) [] _ (ne_eqb b 32 ne) ∙ ap (λ g. record { place = p; token = g.token } ∷ []) (sym e) in
+    cond-false (eqb b 32) [] _ (ne_eqb b 32 ne) ∙ ap (λ g. record { place = p; token = g.token } ∷ []) (sym e) in
     let behind : bytes_behind names (b ∷ s) ≡ f.size - 1 = cond-false (eqb b 32) 0 _ (ne_eqb b 32 ne) ∙ ap (λ g. g.size - 1) (sym e) in
     ap₂ (λ h k. h ++ tokens_from names k (suc p) s) head behind
     ∙ ap (λ r. record { place = p; token = f.token } ∷ r) (tokens_skip names (f.size - 1) (suc p) s ∙ skipped names p b s f.size some)
@@ -101,7 +101,7 @@ scanned_token columns text p s s0 new atoms atoms' unknown unknown' f says h ne 
       split = r.split ∙ (ap (λ l. r.seen ++ l) (rest_token columns text p f h ne e some) ∙ sym (append_assoc r.seen (here ∷ []) (rest_from columns text (p + f.size))));
       read = ap (λ l. run 32 (Wants [] []) l) (bare_push r.seen p f.token) ∙ run_then 32 (bare r.seen) (f.token ∷ []) (Wants [] []) s _ r.read (run_step 32 f.token [] s new _ goes refl);
       places = ea ∙ (ap (λ l. l ++ atom_here p f.token) r.places ∙ (ap (λ l. atom_places r.seen ++ l) (sym (append-nil _)) ∙ sym (places-append r.seen (here ∷ []))));
-      unnamed = eu ∙ (ap (λ o. first_of o (unknown_here (length columns) p f.token None)) r.unnamed ∙ sym (unknown-append (length columns) r.seen (here ∷ [])))
+      unnamed = eu ∙ (ap (λ o. first_of o (unknown_here (length columns) p f.token None)) r.unnamed ∙ sym (unknown-append (length columns) r.seen (here ∷ [])));
     }
 
 pub scanned_at : (columns : List Column) (text : List ℕ) (p : ℕ) (s s0 new : State) (atoms : List ℕ) (unknown : Option ℕ) (f : Front) (says : Step) → length text ≤ 1024 → p < length text → (get_or text p 0 ≡ 32 → ⊥) → f ≡ front_of (names_of columns) (drop p text) → 0 < f.size → s0 ≡ s → says ≡ Refused → StepSays s0 f.token new says → Scanned columns text p s atoms unknown → IsAt columns text p
@@ -115,8 +115,8 @@ scanned_at columns text p s s0 new atoms unknown f says short h ne e some same r
         after = rest_from columns text (p + f.size);
         split = r.split ∙ ap (λ l. r.seen ++ l) (rest_token columns text p f h ne e some);
         begins = run_begins 32 (bare r.seen) s r.read;
-        stops = refused_all 32 (bare r.seen) f.token s r.read stop
-      })
+        stops = refused_all 32 (bare r.seen) f.token s r.read stop;
+      });
     }
 
 pub scanned_deep : (columns : List Column) (text : List ℕ) (p : ℕ) (s s0 new : State) (atoms : List ℕ) (unknown : Option ℕ) (f : Front) (says : Step) → length text ≤ 1024 → p < length text → (get_or text p 0 ≡ 32 → ⊥) → f ≡ front_of (names_of columns) (drop p text) → 0 < f.size → s0 ≡ s → says ≡ TooDeep → StepSays s0 f.token new says → Scanned columns text p s atoms unknown → IsDeep columns text p
@@ -133,6 +133,6 @@ scanned_deep columns text p s s0 new atoms unknown f says short h ne e some same
         split = r.split ∙ ap (λ l. r.seen ++ l) (rest_token columns text p f h ne e some);
         begins = run_begins 32 (bare r.seen) s r.read;
         goes_on = (t.1, taken_begins 32 t.1 (bare r.seen) f.token s t.3 t.2 r.read goes);
-        too_deep = refused_within 32 32 (bare r.seen) f.token s r.read stop
-      }
+        too_deep = refused_within 32 32 (bare r.seen) f.token s r.read stop;
+      };
     }

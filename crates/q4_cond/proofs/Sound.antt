@@ -74,16 +74,17 @@ reduce : (n l m : ℕ) (fs : List Frame) (out : List Node) (ts : List Token) →
 reduce n l m [] out ts h fits tight some = record { level = m; read = behind_as n m [] _ _ _ _ (sym (append-nil out)) refl h; fits = fits; tight = tight }
 reduce n l m (f ∷ fs) out ts h fits tight some =
     elim (cases_Bool (leb l (frame_level f))) as (λ _. Reduced n l (kept_frames l (f ∷ fs)) (out ++ closed_nodes l (f ∷ fs)) ts) [
-      inl e ↦
-        (let high : l ≤ frame_level f = leb-true _ _ e in
-         let c = close_frame n m f fs out ts h fits (omega arith) in
-         let r = reduce n l (frame_level f) fs (out ++ frame_node f ∷ []) ts c.0 c.1 high some in
-         reduced_as n l _ _ _ _ ts (sym (cond-true (leb l (frame_level f)) _ _ e))
-           (append_assoc out (frame_node f ∷ []) (closed_nodes l fs) ∙ ap (λ x. out ++ x) (sym (cond-true (leb l (frame_level f)) (frame_node f ∷ closed_nodes l fs) [] e))) r)
-    | inr e ↦
-        (reduced_as n l (f ∷ fs) _ out _ ts (sym (cond-false (leb l (frame_level f)) _ _ e))
+      | inl e ↦
+          (let high : l ≤ frame_level f = leb-true _ _ e in
+          let c = close_frame n m f fs out ts h fits (omega arith) in
+          let r = reduce n l (frame_level f) fs (out ++ frame_node f ∷ []) ts c.0 c.1 high some in
+          reduced_as n l _ _ _ _ ts (sym (cond-true (leb l (frame_level f)) _ _ e))
+          (append_assoc out (frame_node f ∷ []) (closed_nodes l fs) ∙ ap (λ x. out ++ x) (sym (cond-true (leb l (frame_level f)) (frame_node f ∷ closed_nodes l fs) [] e))) r)
+      | inr e ↦
+          (reduced_as n l (f ∷ fs) _ out _ ts (sym (cond-false (leb l (frame_level f)) _ _ e))
           (sym (append-nil out) ∙ ap (λ x. out ++ x) (sym (cond-false (leb l (frame_level f)) (frame_node f ∷ closed_nodes l fs) [] e)))
-          (record { level = m; read = h; fits = fits; tight = tight })) ]
+          (record { level = m; read = h; fits = fits; tight = tight }))
+    ]
 
 -- a test that gives something is true
 pub cond_some : {A : Type 0} (b : Bool) (x y : A) → cond b (Some x) None ≡ Some y → (b ≡ true) × (x ≡ y)

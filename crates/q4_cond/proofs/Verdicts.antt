@@ -86,7 +86,7 @@ spelled m ts t p =
       last = Has (r.frames ++ []) r.done;
       goes = r.goes;
       ends = ap (λ k. ended k (r.done ++ closed_nodes 1 (r.frames ++ []))) (kept-tight 1 r.frames [] r.tight)
-        ∙ ap Some (ap (λ k. r.done ++ k) (closed-tight 1 r.frames [] r.tight ∙ append-nil _) ∙ r.ends)
+          ∙ ap Some (ap (λ k. r.done ++ k) (closed-tight 1 r.frames [] r.tight ∙ append-nil _) ∙ r.ends);
     }
 
 front_none : (m : ℕ) (ts rest : List Token) (s : State) → (o : Option State) → run m s ts ≡ o → run m s (ts ++ rest) ≡ option_and_then (λ x. run m x rest) o

@@ -4,12 +4,12 @@ ghost use Rattle.q4_cond.specs.Values.{meets};
 ghost use Rattle.q4_cond.specs.Tokens.{names_of};
 ghost use Rattle.q4_cond.specs.Shown.{condition_text};
 
+use crate::CondFault;
 use crate::kinds::first_misplaced;
 use crate::scan::scan_text;
-use crate::writing::write_nodes;
 use crate::tree::{Atom, Node};
-use crate::CondFault;
 use crate::value::execute;
+use crate::writing::write_nodes;
 use q4_value::{Bytes, Column, Kind, NoMemory, Row, Words};
 use std::alloc::Global;
 use std::marker::Model;

@@ -5,9 +5,9 @@ mod cond;
 mod fault;
 mod frames;
 mod kinds;
+mod laws;
 mod reader;
 mod scan;
-
 mod token;
 mod tree;
 mod value;
@@ -15,6 +15,7 @@ mod writing;
 
 pub use cond::{Cond, met, read, show};
 pub use fault::CondFault;
+pub use laws::one_tree;
 
 #[cfg(test)]
 mod tests;

@@ -57,7 +57,13 @@ impl Scan {
     }
 
     /// Takes the token at the place, and answers where it ends.
-    fn advance(&mut self, alloc: Global, columns: &[Column], text: &[u8], place: usize) -> Result<usize, CondFault>
+    fn advance(
+        &mut self,
+        alloc: Global,
+        columns: &[Column],
+        text: &[u8],
+        place: usize,
+    ) -> Result<usize, CondFault>
         requires short { length text.now ≤ 1024 }
         requires within { place < length text.now }
         requires no_space { slice_index text.now place ≢ 32 }

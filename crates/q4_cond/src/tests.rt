@@ -13,15 +13,28 @@ fn words(alloc: Global, text: &str) -> Result<Words, Fail> {
 /// The columns `prio int`, `body text` and `n int`.
 fn columns(alloc: Global) -> Result<Vec<Column>, Fail> {
     let mut columns = Vec::new(alloc);
-    columns.push(Column { name: words(alloc, "prio")?, kind: Kind::Int })?;
-    columns.push(Column { name: words(alloc, "body")?, kind: Kind::Words })?;
-    columns.push(Column { name: words(alloc, "n")?, kind: Kind::Int })?;
+    columns.push(Column {
+        name: words(alloc, "prio")?,
+        kind: Kind::Int,
+    })?;
+    columns.push(Column {
+        name: words(alloc, "body")?,
+        kind: Kind::Words,
+    })?;
+    columns.push(Column {
+        name: words(alloc, "n")?,
+        kind: Kind::Int,
+    })?;
     Ok(columns)
 }
 
 fn row(alloc: Global, prio: i64, body: &str, n: i64) -> Result<Row, Fail> {
     let mut row = Row::new(alloc);
-    let values = [Value::Int(prio), Value::Word(words(alloc, body)?), Value::Int(n)];
+    let values = [
+        Value::Int(prio),
+        Value::Word(words(alloc, body)?),
+        Value::Int(n),
+    ];
     for value in values {
         if row.push(value).is_err() {
             return Err(Fail::from("no memory"));
@@ -96,8 +109,14 @@ fn texts_read_or_have_a_fault(rt: HostRuntime) -> Result<(), Fail> {
         ("andy", Some(CondFault::NoColumn(0))),
         ("n_", Some(CondFault::NoColumn(0))),
         ("170141183460469231731687303715884105727", None),
-        ("170141183460469231731687303715884105728", Some(CondFault::At(0))),
-        ("1701411834604692317316873037158841057270000", Some(CondFault::At(0))),
+        (
+            "170141183460469231731687303715884105728",
+            Some(CondFault::At(0)),
+        ),
+        (
+            "1701411834604692317316873037158841057270000",
+            Some(CondFault::At(0)),
+        ),
         ("body = 'ö€'", None),
         ("prio ; 1", Some(CondFault::At(5))),
     ];
@@ -128,7 +147,11 @@ fn depth_and_length_have_limits(rt: HostRuntime) -> Result<(), Fail> {
     ];
     for (text, times, end, expected) in cases {
         let all = repeated(rt.alloc(), text, times, end)?;
-        assert_eq!(rt; fault(rt.alloc(), all.as_str())?, expected, "{times} times {text}");
+        assert_eq!(rt;
+            fault(rt.alloc(), all.as_str())?,
+            expected,
+            "{times} times {text}"
+        );
     }
     Ok(())
 }
@@ -158,11 +181,41 @@ fn rows_meet_conditions(rt: HostRuntime) -> Result<(), Fail> {
         ("n%2 = 0-1", 0, "", -7, true),
         ("7%n = 1", 0, "", -2, true),
         ("-7/n = 3", 0, "", -2, true),
-        ("(-170141183460469231731687303715884105727-1)%-1 = 0", 0, "", 0, true),
-        ("(-170141183460469231731687303715884105727-1)/-1 = 0", 0, "", 0, false),
-        ("-(-170141183460469231731687303715884105727-1) < 1", 0, "", 0, false),
-        ("170141183460469231731687303715884105727+1 < 0", 0, "", 0, false),
-        ("not 170141183460469231731687303715884105727+1 < 0", 0, "", 0, false),
+        (
+            "(-170141183460469231731687303715884105727-1)%-1 = 0",
+            0,
+            "",
+            0,
+            true,
+        ),
+        (
+            "(-170141183460469231731687303715884105727-1)/-1 = 0",
+            0,
+            "",
+            0,
+            false,
+        ),
+        (
+            "-(-170141183460469231731687303715884105727-1) < 1",
+            0,
+            "",
+            0,
+            false,
+        ),
+        (
+            "170141183460469231731687303715884105727+1 < 0",
+            0,
+            "",
+            0,
+            false,
+        ),
+        (
+            "not 170141183460469231731687303715884105727+1 < 0",
+            0,
+            "",
+            0,
+            false,
+        ),
         ("10-3-2 = 5", 0, "", 0, true),
         ("100/10/5 = 2", 0, "", 0, true),
         ("1+2*3 = 7", 0, "", 0, true),

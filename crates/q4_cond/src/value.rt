@@ -235,7 +235,11 @@ fn pop<'a, const N: usize>(stack: &mut ArrayVec<Operand<'a>, N>) -> Option<Opera
 }
 
 /// Takes a node's operands from the stack, and puts its value there.
-fn execute_node<'a, const N: usize>(stack: &mut ArrayVec<Operand<'a>, N>, node: &'a Node, row: &'a Row)
+fn execute_node<'a, const N: usize>(
+    stack: &mut ArrayVec<Operand<'a>, N>,
+    node: &'a Node,
+    row: &'a Row,
+)
     requires { array_vec_len stack.old < N }
     ensures done { meanings stack.new.items ≡ execute_node row.now node.now (meanings stack.old.items) }
     ensures len { array_vec_len stack.new ≤ array_vec_len stack.old + 1 }

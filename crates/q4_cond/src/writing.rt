@@ -41,7 +41,11 @@ fn append(text: &mut Bytes, piece: &[u8]) -> Result<(), NoMemory>
     ensures { OnOk result (text.new ≡ spaced text.old piece.now) }
 {
     let so_far = text.as_slice();
-    let last = if so_far.len() > 0 { so_far[so_far.len() - 1] } else { 0 };
+    let last = if so_far.len() > 0 {
+        so_far[so_far.len() - 1]
+    } else {
+        0
+    };
     let next = if piece.len() > 0 { piece[0] } else { 0 };
     if is_word_byte(last) && is_word_byte(next) {
         text.push(b" ")?;
@@ -150,7 +154,12 @@ fn pop(stack: &mut Vec<Shown>) -> Option<Shown>
 }
 
 /// Takes the texts of a node's operands from the stack, and puts its own there.
-fn write_node(alloc: Global, stack: &mut Vec<Shown>, node: &Node, columns: &[Column]) -> Result<(), NoMemory>
+fn write_node(
+    alloc: Global,
+    stack: &mut Vec<Shown>,
+    node: &Node,
+    columns: &[Column],
+) -> Result<(), NoMemory>
     ensures { OnOk result (reverse stack.new.items ≡ write_node (names_of columns.now) node.now (reverse stack.old.items)) }
 {
     match node {

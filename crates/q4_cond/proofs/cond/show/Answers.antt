@@ -9,8 +9,8 @@ pub returns-in-Ok : goal.returns-in-Ok
 returns-in-Ok c =
     let names = names_of c.args.columns.now in
     let same = c.in-Ok.ensures.cases.0
-      ∙ (c.as_slice.ensures
-      ∙ (c.in_ok-bytes.ensures
-      ∙ (ap (λ ns. first_text (write_nodes names ns [])) c.deref.ensures.value
-      ∙ (first_text-nodes names c.cond.inside.nodes.items ∙ ap (λ v. condition_text names v.tree) c.cond.view_is)))) in
+    ∙ (c.as_slice.ensures
+    ∙ (c.in_ok-bytes.ensures
+    ∙ (ap (λ ns. first_text (write_nodes names ns [])) c.deref.ensures.value
+    ∙ (first_text-nodes names c.cond.inside.nodes.items ∙ ap (λ v. condition_text names v.tree) c.cond.view_is)))) in
     subst (λ x. IfOk c.new.result (λ words. words ≡ x)) same c.new.ensures

@@ -9,11 +9,13 @@ loop-i-preserved c =
     let rest = c.args.rest.now in
     let i = c.loop-i.i in
     elim c.if-byte-ne39.branch [
-      then-byte-ne39+else-closed+in_ok-push w ↦
-        text_goes_plain text _ rest i c.loop-i.closed _ c.loop-i-test.true w.if-byte-ne39.true w.if-closed.false w.closed-is (w.text-is ∙ w.in_ok-push.ensures.pushed) c.loop-i.invariant
-    | else-byte-ne39 w ↦
-        elim w.if-closed-2.branch [
-          then-closed-2+in_ok-push-2 w' ↦
-            text_goes_doubled text _ rest i c.loop-i.closed _ c.loop-i-test.true w.if-byte-ne39.false w'.if-closed-2.true w.closed-is (w.text-is ∙ (w'.text-is ∙ w'.in_ok-push-2.ensures.pushed)) c.loop-i.invariant
-        | else-closed-2 w' ↦
-            text_goes_quote text _ rest i c.loop-i.closed _ c.loop-i-test.true w.if-byte-ne39.false w'.if-closed-2.false w.closed-is (w.text-is ∙ w'.text-is) c.loop-i.invariant ] ]
+      | then-byte-ne39+else-closed+in_ok-push w ↦
+          text_goes_plain text _ rest i c.loop-i.closed _ c.loop-i-test.true w.if-byte-ne39.true w.if-closed.false w.closed-is (w.text-is ∙ w.in_ok-push.ensures.pushed) c.loop-i.invariant
+      | else-byte-ne39 w ↦
+          elim w.if-closed-2.branch [
+            | then-closed-2+in_ok-push-2 w' ↦
+                text_goes_doubled text _ rest i c.loop-i.closed _ c.loop-i-test.true w.if-byte-ne39.false w'.if-closed-2.true w.closed-is (w.text-is ∙ (w'.text-is ∙ w'.in_ok-push-2.ensures.pushed)) c.loop-i.invariant
+            | else-closed-2 w' ↦
+                text_goes_quote text _ rest i c.loop-i.closed _ c.loop-i-test.true w.if-byte-ne39.false w'.if-closed-2.false w.closed-is (w.text-is ∙ w'.text-is) c.loop-i.invariant
+          ]
+    ]
