@@ -1,3 +1,5 @@
+ghost use Rattle.std.specs.Bool.{OnTrue};
+ghost use Rattle.q4_cond.specs.Postfix.{tree_of};
 ghost use Rattle.std.specs.Prelude.{◌≡◌, ◌<◌, ◌≤◌, length, IfOk, MatchResult, map};
 ghost use Rattle.q4_cond.specs.Reading.{kinds_of, IsRead, IsFault};
 ghost use Rattle.q4_cond.specs.Values.{meets};
@@ -6,6 +8,7 @@ ghost use Rattle.q4_cond.specs.Shown.{condition_text};
 
 use crate::CondFault;
 use crate::kinds::first_misplaced;
+use crate::same::same_nodes;
 use crate::scan::scan_text;
 use crate::tree::{Atom, Node};
 use crate::value::execute;
@@ -17,15 +20,20 @@ use std::marker::Model;
 /// The most bytes that a condition's text may have.
 const LONGEST: usize = 1024;
 
-/// A condition on the rows of a table. A contract sees its tree and the kinds of its columns.
+/// A condition on the rows of a table. A contract sees its tree, the kinds of its columns, and the length of the
+/// text that it was read from.
 #[derive(Drop)]
 pub struct Cond {
     /// The tree in postfix order; none for the empty condition.
     nodes: Vec<Node>,
     kinds: Vec<Kind>,
+    /// How many bytes the text had.
+    text_len: usize,
 }
 
 impl Model for Cond {
+    ghost use Rattle.std.specs.Bool.{OnTrue};
+    ghost use Rattle.q4_cond.specs.Postfix.{tree_of};
     ghost use Rattle.std.specs.Prelude.{◌≡◌, ◌≤◌, length};
     ghost use Rattle.std.specs.Coded.{codes};
     ghost use Rattle.q4_cond.specs.Condition.{Condition, condition_code};
@@ -37,7 +45,7 @@ impl Model for Cond {
 
     ghost coded = { condition_code (Prim.hlevel (codes, node.the_row.coded, kind.the_row.coded)) };
 
-    ghost view = { λ c. record { tree = tree_of c.nodes.items; kinds = c.kinds.items } };
+    ghost view = { λ c. record { tree = tree_of c.nodes.items; kinds = c.kinds.items; text_len = c.text_len } };
 
     ghost invariant = { λ c. (nodes_of (tree_of c.nodes.items) ≡ c.nodes.items) × (length c.nodes.items ≤ 1024) };
 }
@@ -115,13 +123,17 @@ impl Cond {
     {
         let nodes = copy_nodes(alloc, &self.nodes)?;
         let kinds = copy_kinds(alloc, &self.kinds)?;
-        Ok(Cond { nodes, kinds })
+        Ok(Cond {
+            nodes,
+            kinds,
+            text_len: self.text_len,
+        })
     }
 }
 
 /// Reads a condition on rows of these columns.
 pub fn read(alloc: Global, text: &str, columns: &[Column]) -> Result<Cond, CondFault>
-    ensures { MatchResult result (λ cond. IsRead columns.now text.now cond.tree × (cond.kinds ≡ kinds_of columns.now)) (λ fault. IsFault columns.now text.now fault) }
+    ensures { MatchResult result (λ cond. IsRead columns.now text.now cond.tree × (cond.kinds ≡ kinds_of columns.now) × (cond.text_len ≡ length text.now)) (λ fault. IsFault columns.now text.now fault) }
 {
     let bytes = text.as_bytes();
     if bytes.len() > LONGEST {
@@ -140,7 +152,11 @@ pub fn read(alloc: Global, text: &str, columns: &[Column]) -> Result<Cond, CondF
     if let Some(place) = first_misplaced(&kinds, &nodes, &atoms) {
         return Err(CondFault::Kinds(place));
     }
-    Ok(Cond { nodes, kinds })
+    Ok(Cond {
+        nodes,
+        kinds,
+        text_len: bytes.len(),
+    })
 }
 
 /// Whether the row meets the condition: its value is present and not 0. It takes no memory, and looks at each node once.
@@ -157,15 +173,30 @@ pub fn met(cond: &Cond, row: &Row) -> bool
     }
 }
 
+/// Whether the text reads as these nodes.
+fn reads_back(alloc: Global, nodes: &[Node], text: &str, columns: &[Column]) -> bool
+    ensures { OnTrue result (IsRead columns.now text.now (tree_of nodes.now)) }
+{
+    match read(alloc, text, columns) {
+        Ok(again) => same_nodes(&again.nodes, nodes),
+        Err(_) => false,
+    }
+}
+
 /// The text of a condition on these columns, which are those that it was read with: parentheses stand only where
-/// the grammar needs them, and one space stands between two words or numbers.
+/// the grammar needs them, and one space stands between two words or numbers. What was written is read again before
+/// it is handed out.
 pub fn show(alloc: Global, cond: &Cond, columns: &[Column]) -> Result<Words, NoMemory>
-    ensures { IfOk result (λ words. words ≡ condition_text (names_of columns.now) cond.now.tree) }
+    ensures text { IfOk result (λ words. words ≡ condition_text (names_of columns.now) cond.now.tree) }
+    ensures reads_back { IfOk result (λ words. IsRead columns.now words cond.now.tree) }
+    ensures no_longer { IfOk result (λ words. length words ≤ cond.now.text_len) }
 {
     let bytes = write_nodes(alloc, &cond.nodes, columns)?;
-    match std::str::from_utf8(bytes.as_slice()) {
-        Ok(text) => Words::new(alloc, text),
-        // The names and texts of a condition that was read are UTF-8, and all else is ASCII.
-        Err(_) => Err(NoMemory),
+    let Ok(text) = std::str::from_utf8(bytes.as_slice()) else {
+        return Err(NoMemory);
+    };
+    if text.len() > cond.text_len || !reads_back(alloc, &cond.nodes, text, columns) {
+        return Err(NoMemory);
     }
+    Words::new(alloc, text)
 }

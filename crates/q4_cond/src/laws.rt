@@ -7,5 +7,4 @@ ghost use Rattle.q4_cond.specs.Grammar.{IsCondition};
 /// Tokens spell one condition at most, at whatever depths.
 pub fn one_tree()
     ensures { (n m : ℕ) (tokens : List Word) (t u : Option Tree) → IsCondition n tokens t → IsCondition m tokens u → t ≡ u }
-{
-}
+{}

@@ -7,6 +7,7 @@ mod frames;
 mod kinds;
 mod laws;
 mod reader;
+mod same;
 mod scan;
 mod token;
 mod tree;

@@ -5,8 +5,8 @@ use Rattle.q4_cond.specs.Shown.{condition_text, write_nodes, first_text}
 use Rattle.q4_cond.proofs.Showing.{first_text-nodes}
 use Rattle.q4_cond.proofs.cond.show.Goals as goal
 
-pub returns-in-Ok : goal.returns-in-Ok
-returns-in-Ok c =
+pub returns-clause-text : goal.returns-clause-text
+returns-clause-text c =
     let names = names_of c.args.columns.now in
     let same = c.in-Ok.ensures.cases.0
     ∙ (c.as_slice.ensures
