@@ -1,19 +1,19 @@
 -- Each phrase of the grammar is read.
-use Rattle.std.proofs.Common.{◌≡◌, ℕ, suc, ◌+◌, ◌<◌, ◌≤◌, List, [], ◌∷◌, ◌++◌, Option, Some, None, map, refl, sym, ap, ap₂, ◌∙◌, subst, cond, arith, append_assoc, append-nil, leb, le-leb, lt-ltb}
-use Rattle.std.proofs.lemmas.Bool.{cond-true, cond-false}
+use Rattle.std.proofs.Common.{◌≡◌, ℕ, suc, ◌+◌, ◌<◌, ◌≤◌, List, [], ◌∷◌, ◌++◌, Some, map, refl, sym, ap, ap₂, ◌∙◌, arith, append_assoc, append-nil, le-leb, lt-ltb}
+use Rattle.std.proofs.lemmas.Bool.{cond-true}
 use Rattle.std.proofs.lemmas.List.{map-append}
 use Rattle.q4_cond.specs.declared.tree.Operator.{Operator}
 use Rattle.q4_cond.specs.declared.tree.Operator.TheVariants.{Subtract}
 use Rattle.q4_cond.specs.declared.tree.Node.{Node}
-use Rattle.q4_cond.specs.declared.tree.Node.TheVariants.{Leaf, Binary, Inverted, Negated}
+use Rattle.q4_cond.specs.declared.tree.Node.TheVariants.{Leaf, Binary}
 use Rattle.q4_cond.specs.declared.tree.Token.{Token}
-use Rattle.q4_cond.specs.declared.tree.Token.TheVariants.{Operand, Sign, Not, Open, Close}
+use Rattle.q4_cond.specs.declared.tree.Token.TheVariants.{Sign, Not, Open, Close}
 use Rattle.q4_cond.specs.declared.tree.Frame.{Frame}
 use Rattle.q4_cond.specs.declared.tree.Frame.TheVariants.{Pending, Inverting, Negating, Group}
-use Rattle.q4_cond.specs.Tree.{Tree, Simple, Two, NotOf, MinusOf, level_of, left_level, right_level, postfix}
+use Rattle.q4_cond.specs.Tree.{Tree, NotOf, MinusOf, level_of, left_level, right_level, postfix}
 use Rattle.q4_cond.specs.Grammar.{Phrase, atom, group, minus, inverse, both, looser}
-use Rattle.q4_cond.specs.Machine.{State, Wants, Has, frame_level, wanted_level, frame_node, open_count, kept_frames, closed_nodes, opened, pending, grouped, step, run}
-use Rattle.q4_cond.proofs.Steps.{run_then, run_step, Levels, levels, AtLeastAll, tight_weaken, tight_push, kept-tight, closed-tight, kept_stays, closed_none, top_below}
+use Rattle.q4_cond.specs.Machine.{Wants, Has, frame_level, wanted_level, frame_node, open_count, opened, pending, grouped, step, run}
+use Rattle.q4_cond.proofs.Steps.{run_then, run_step, levels, AtLeastAll, tight_weaken, tight_push, kept-tight, closed-tight, kept_stays, closed_none, top_below}
 
 -- the tokens are read over the frames fs and the nodes out: frames stay that close into the tree's last nodes
 pub record Reads (n l : ℕ) (fs : List Frame) (out : List Node) (ts : List Token) (t : Tree) : Type 0 where

@@ -1,24 +1,21 @@
 -- What the end of a text says.
-use Rattle.std.proofs.Common.{◌≡◌, ◌≢◌, ℕ, zero, suc, ◌+◌, ◌-◌, ◌<◌, ◌≤◌, List, [], ◌∷◌, ◌++◌, Bool, true, false, Option, Some, None, length, drop, refl, sym, ap, ap₂, ◌∙◌, subst, subst₂, cond, arith, append-nil, length-append, inr, eqb}
-use Rattle.std.specs.Prelude.{map}
+use Rattle.std.proofs.Common.{◌≡◌, ℕ, zero, suc, ◌≤◌, List, [], ◌∷◌, ◌++◌, Bool, true, false, Option, Some, None, length, drop, refl, sym, ap, ap₂, ◌∙◌, subst, cond, arith, append-nil, length-append, inr, eqb}
 use Rattle.std.proofs.lemmas.List.{length-map}
-use Rattle.std.proofs.lemmas.Bool.{cases_cond}
 use Rattle.q4_value.specs.declared.column.Column.{Column}
 use Rattle.q4_value.specs.declared.column.Kind.{Kind}
-use Rattle.q4_cond.specs.declared.tree.Operator.{Operator}
 use Rattle.q4_cond.specs.declared.tree.Node.{Node}
 use Rattle.q4_cond.specs.declared.tree.Node.TheVariants.{Binary, Inverted, Negated}
 use Rattle.q4_cond.specs.declared.tree.Token.{Token}
 use Rattle.q4_cond.specs.declared.tree.Token.TheVariants.{Sign, Close}
-use Rattle.q4_cond.specs.Tree.{Tree, Simple, Two, NotOf, MinusOf, postfix}
+use Rattle.q4_cond.specs.Tree.{Tree, postfix}
 use Rattle.q4_cond.specs.Grammar.{Phrase, atom, group, minus, inverse, both, looser, IsCondition, nothing, whole}
 use Rattle.q4_cond.specs.Postfix.{tree_of, nodes_of}
-use Rattle.q4_cond.specs.Machine.{State, Wants, Has, run, accepted, finished}
+use Rattle.q4_cond.specs.Machine.{State, Wants, Has, run, finished}
 use Rattle.q4_cond.specs.Tokens.{Placed, bare, tokens_of, tokens_from, token_here, bytes_behind, front_of, names_of}
 use Rattle.q4_cond.specs.Reading.{atom_places, first_unknown, first_marked, misplaced_in, kinds_of, Spells, IsRead, IsAt, IsNoColumn, IsKinds}
 use Rattle.q4_cond.specs.Marks.{strays}
 use Rattle.q4_cond.specs.Scanned.{Scanned}
-use Rattle.q4_cond.proofs.Sound.{run_begins, Accepts}
+use Rattle.q4_cond.proofs.Sound.{run_begins}
 use Rattle.q4_cond.specs.Condition.{tree_of-nodes_of}
 use Rattle.q4_cond.proofs.Verdicts.{unended, ended_condition, unbegun}
 use Rattle.q4_cond.proofs.Marking.{strays-nodes}

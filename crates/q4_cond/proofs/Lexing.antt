@@ -1,11 +1,10 @@
 -- How the runs of a text and its numbers are read byte by byte.
-use Rattle.std.proofs.Common.{inl, inr, ap₂, eqb, eq-eqb, ne_eqb, ◌≡◌, ℕ, zero, suc, ◌+◌, ◌-◌, ◌*◌, ◌^◌, ◌<◌, ◌≤◌, List, [], ◌∷◌, ◌++◌, Bool, true, false, not, Option, Some, None, length, get_or, take, drop, refl, sym, ap, ◌∙◌, subst, cond, arith, append_assoc, append-nil, add-one, drop-cons, take-suc, ltb, le-ltb, take_all}
-use Rattle.std.specs.Prelude.{map, MatchOption}
+use Rattle.std.proofs.Common.{inl, inr, ap₂, eqb, eq-eqb, ne_eqb, ◌≡◌, ℕ, suc, ◌+◌, ◌-◌, ◌*◌, ◌^◌, ◌<◌, ◌≤◌, List, [], ◌∷◌, ◌++◌, Bool, true, false, not, Option, Some, None, length, get_or, drop, refl, sym, ap, ◌∙◌, subst, arith, append_assoc, ltb, le-ltb}
+use Rattle.std.specs.Prelude.{MatchOption}
 use Rattle.std.proofs.lemmas.List.{drop_more}
 use Rattle.std.proofs.lemmas.Bool.{cond-true, cond-false, cases_Bool}
 use Rattle.q4_cond.specs.declared.tree.Token.TheVariants.{Bad}
-use Rattle.q4_cond.specs.Tokens.{is_digit, digits_from, numeral, Quoted, longer, with_byte, quoted_byte, quoted}
-use Rattle.std.specs.Str.{bytes_eq}
+use Rattle.q4_cond.specs.Tokens.{is_digit, digits_from, numeral, Quoted, longer, with_byte, quoted}
 
 -- the byte at the place, and what follows it
 pub drop_here : (bs : List ℕ) (i : ℕ) → i < length bs → drop i bs ≡ get_or bs i 0 ∷ drop (i + 1) bs

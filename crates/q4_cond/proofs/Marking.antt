@@ -1,15 +1,14 @@
 -- The texts that are misplaced in a tree are those that are stray in its nodes.
-use Rattle.std.proofs.Common.{◌≡◌, ◌≢◌, ℕ, zero, suc, ◌+◌, ◌<◌, ◌≤◌, List, [], ◌∷◌, ◌++◌, Bool, true, false, not, ◌&&◌, ◌||◌, Option, Some, None, length, get_or, drop, drop-drop, refl, sym, ap, ap₂, ◌∙◌, subst, cond, arith, append_assoc, append-nil}
-use Rattle.std.specs.Prelude.{slice_get}
+use Rattle.std.proofs.Common.{◌≡◌, ℕ, ◌+◌, ◌<◌, List, [], ◌∷◌, ◌++◌, Bool, true, false, not, ◌&&◌, ◌||◌, Option, Some, None, length, get_or, drop, drop-drop, refl, sym, ap, ap₂, ◌∙◌, cond, append_assoc, append-nil}
 use Rattle.std.proofs.lemmas.List.{drop_more}
-use Rattle.std.proofs.lemmas.Bool.{cond-true, cond-false, cases_Bool, and_left}
+use Rattle.std.proofs.lemmas.Bool.{cond-false, and_left}
 use Rattle.q4_value.specs.declared.column.Kind.{Kind}
 use Rattle.q4_cond.specs.declared.tree.Operator.{Operator}
 use Rattle.q4_cond.specs.declared.tree.Atom.{Atom}
 use Rattle.q4_cond.specs.declared.tree.Node.{Node}
 use Rattle.q4_cond.specs.declared.tree.Node.TheVariants.{Leaf, Binary, Inverted, Negated}
 use Rattle.q4_cond.specs.Tree.{Tree, Simple, Two, NotOf, MinusOf, postfix}
-use Rattle.q4_cond.specs.Reading.{is_text, compares_texts, both_texts, misplaced, misplaced_in, first_marked}
+use Rattle.q4_cond.specs.Reading.{is_text, compares_texts, misplaced, misplaced_in, first_marked}
 use Rattle.q4_cond.specs.Postfix.{nodes_of}
 use Rattle.q4_cond.specs.Marks.{next_compares, next_is_side, is_stray, strays}
 

@@ -1,6 +1,6 @@
 -- How a text is read token by token.
-use Rattle.std.proofs.Common.{◌≡◌, ◌≢◌, ℕ, zero, suc, ◌+◌, ◌-◌, ◌<◌, ◌≤◌, List, [], ◌∷◌, ◌++◌, Bool, true, false, Option, Some, None, length, get_or, take, drop, refl, sym, ap, ap₂, ◌∙◌, subst, subst₂, cond, arith, append_assoc, append-nil, add-one, eqb, eq-eqb, ne_eqb, inl, inr, drop-drop}
-use Rattle.std.specs.Prelude.{map, IfOk, nat_lt}
+use Rattle.std.proofs.Common.{◌≡◌, ℕ, zero, suc, ◌+◌, ◌-◌, ◌<◌, ◌≤◌, List, [], ◌∷◌, ◌++◌, Bool, true, false, Option, Some, None, length, get_or, drop, refl, sym, ap, ap₂, ◌∙◌, subst, cond, arith, append_assoc, append-nil, add-one, eqb, eq-eqb, ne_eqb, inl, drop-drop}
+use Rattle.std.specs.Prelude.{nat_lt}
 use Rattle.std.proofs.lemmas.List.{drop_more, map-append}
 use Rattle.std.proofs.lemmas.Bool.{cond-true, cond-false}
 use Rattle.q4_value.specs.declared.column.Column.{Column}
@@ -10,8 +10,8 @@ use Rattle.q4_cond.specs.declared.tree.Token.{Token}
 use Rattle.q4_cond.specs.declared.tree.Token.TheVariants.{Operand, Sign, Not, Open, Close, Bad}
 use Rattle.q4_cond.specs.declared.reader.Step.{Step}
 use Rattle.q4_cond.specs.declared.reader.Step.TheVariants.{Taken, Refused, TooDeep}
-use Rattle.q4_cond.specs.Machine.{State, Wants, Has, step, run, StepSays}
-use Rattle.q4_cond.specs.Tokens.{Placed, bare, tokens_of, tokens_from, token_here, bytes_behind, front_of, names_of}
+use Rattle.q4_cond.specs.Machine.{State, Wants, step, run, StepSays}
+use Rattle.q4_cond.specs.Tokens.{Placed, bare, tokens_from, token_here, bytes_behind, front_of, names_of}
 use Rattle.q4_cond.specs.Reading.{atom_here, atom_places, unknown_here, first_unknown, IsAt, IsDeep}
 use Rattle.q4_cond.specs.Scanned.{Scanned, first_of}
 use Rattle.q4_cond.proofs.Steps.{run_then, run_step}

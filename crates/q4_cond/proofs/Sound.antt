@@ -1,21 +1,20 @@
 -- What is read is a phrase of the grammar, and each state can be completed.
-use Rattle.std.proofs.Common.{◌≡◌, ℕ, zero, suc, ◌+◌, ◌-◌, ◌<◌, ◌≤◌, List, [], ◌∷◌, ◌++◌, Bool, true, false, Option, Some, None, map, refl, sym, ap, ap₂, ◌∙◌, subst, subst₂, cond, arith, append_assoc, append-nil, leb, ltb, le-leb, leb-true, ltb-true, ◌⊎◌, inl, inr, pos}
+use Rattle.std.proofs.Common.{◌≡◌, ℕ, zero, suc, ◌-◌, ◌<◌, ◌≤◌, List, [], ◌∷◌, ◌++◌, Bool, true, false, Option, Some, None, refl, sym, ap, ◌∙◌, subst, subst₂, cond, arith, append_assoc, append-nil, leb, ltb, leb-true, ltb-true, inl, inr, pos}
 use Rattle.std.specs.Option.{option_and_then}
 use Rattle.std.proofs.lemmas.Bool.{cond-true, cond-false, cases_Bool, cases_lt}
 use Rattle.q4_cond.specs.declared.tree.Operator.{Operator}
 use Rattle.q4_cond.specs.declared.tree.Operator.TheVariants.{Or, And, Equal, Unequal, Below, AtMost, Above, AtLeast, Add, Subtract, Multiply, Divide, Remainder}
 use Rattle.q4_cond.specs.declared.tree.Atom.TheVariants.{Number}
 use Rattle.q4_cond.specs.declared.tree.Node.{Node}
-use Rattle.q4_cond.specs.declared.tree.Node.TheVariants.{Leaf, Binary, Inverted, Negated}
+use Rattle.q4_cond.specs.declared.tree.Node.TheVariants.{Leaf}
 use Rattle.q4_cond.specs.declared.tree.Token.{Token}
 use Rattle.q4_cond.specs.declared.tree.Token.TheVariants.{Operand, Sign, Not, Open, Close, Bad}
 use Rattle.q4_cond.specs.declared.tree.Frame.{Frame}
 use Rattle.q4_cond.specs.declared.tree.Frame.TheVariants.{Pending, Inverting, Negating, Group}
-use Rattle.q4_cond.specs.Tree.{Tree, Simple, Two, NotOf, MinusOf, level_of, left_level, right_level, postfix}
-use Rattle.q4_cond.specs.Grammar.{Phrase, atom, group, minus, inverse, both, looser, IsCondition, nothing, whole, BeginsWithin, Begins}
+use Rattle.q4_cond.specs.Tree.{Tree, NotOf, MinusOf, level_of, left_level, right_level, postfix}
+use Rattle.q4_cond.specs.Grammar.{Phrase, atom, group, minus, inverse, both, looser, whole, BeginsWithin}
 use Rattle.q4_cond.specs.Machine.{State, Wants, Has, frame_level, wanted_level, frame_node, open_count, kept_frames, closed_nodes, opened, signed, pending, grouped, step, run, ended, accepted}
-use Rattle.q4_cond.proofs.Steps.{run-append, run_then, run_step, levels, AtLeastAll, tight_push, kept-tight, closed-tight}
-use Rattle.q4_cond.proofs.Complete.{Reads, complete}
+use Rattle.q4_cond.proofs.Steps.{run_then, run_step, levels, AtLeastAll, tight_push, kept-tight}
 
 -- the tokens so far, where an operand is wanted: they left these frames and nodes
 pub data Before (n : ℕ) : List Frame → List Node → List Token → Type 0 where

@@ -1,15 +1,14 @@
 -- How runs of the reader's states compose.
-use Rattle.std.proofs.Common.{◌≡◌, ℕ, suc, ◌+◌, ◌<◌, ◌≤◌, List, [], ◌∷◌, ◌++◌, Option, Some, None, map, refl, sym, ap, ap₂, ◌∙◌, subst, cond, arith, append_assoc, append-nil, leb, le-leb, lt-ltb, leb-true, ◌≢◌}
+use Rattle.std.proofs.Common.{◌≡◌, ℕ, suc, ◌<◌, ◌≤◌, List, [], ◌∷◌, ◌++◌, Option, Some, None, map, refl, ap, ◌∙◌, arith, leb, le-leb, ◌≢◌}
 use Rattle.std.specs.Option.{option_and_then}
 use Rattle.std.proofs.lemmas.Bool.{cond-true, cond-false, lt-leb}
 use Rattle.q4_cond.specs.declared.tree.Operator.{Operator}
 use Rattle.q4_cond.specs.declared.tree.Operator.TheVariants.{Or, And, Equal, Unequal, Below, AtMost, Above, AtLeast, Add, Subtract, Multiply, Divide, Remainder}
-use Rattle.q4_cond.specs.declared.tree.Node.{Node}
 use Rattle.q4_cond.specs.declared.tree.Token.{Token}
 use Rattle.q4_cond.specs.declared.tree.Frame.{Frame}
 use Rattle.q4_cond.specs.declared.tree.Frame.TheVariants.{Pending, Inverting, Negating, Group}
 use Rattle.q4_cond.specs.Tree.{level_of, left_level}
-use Rattle.q4_cond.specs.Machine.{State, Wants, Has, frame_level, wanted_level, frame_node, kept_frames, closed_nodes, step, run}
+use Rattle.q4_cond.specs.Machine.{State, frame_level, wanted_level, frame_node, kept_frames, closed_nodes, step, run}
 
 bind_run : (n : ℕ) (a b : List Token) → ((s : State) → run n s (a ++ b) ≡ option_and_then (λ x. run n x b) (run n s a)) → (o : Option State) → option_and_then (λ x. run n x (a ++ b)) o ≡ option_and_then (λ x. run n x b) (option_and_then (λ x. run n x a) o)
 bind_run n a b ih None = refl

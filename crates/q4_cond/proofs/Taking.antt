@@ -1,6 +1,6 @@
 -- The reader's answers to a token, from what it does.
-use Rattle.std.proofs.Common.{◌≡◌, ℕ, suc, ◌+◌, ◌<◌, ◌≤◌, List, [], ◌∷◌, ◌++◌, Bool, true, false, Option, Some, None, refl, sym, ap, ap₂, ◌∙◌, subst, cond, arith, append-nil, ltb, leb, lt-ltb, le-ltb, le-leb}
-use Rattle.std.specs.Prelude.{IfOk, Ok, Err, slice_get, nat_lt}
+use Rattle.std.proofs.Common.{◌≡◌, ℕ, suc, ◌<◌, ◌≤◌, List, [], ◌∷◌, ◌++◌, Bool, true, false, Some, None, sym, ap, ◌∙◌, subst, arith, append-nil, ltb, leb, lt-ltb, le-ltb, le-leb}
+use Rattle.std.specs.Prelude.{IfOk, Ok, Err, slice_get}
 use Rattle.std.specs.declared.result.Result.{Result}
 use Rattle.std.proofs.lemmas.Bool.{cond-true, cond-false}
 use Rattle.q4_value.specs.declared.NoMemory.{NoMemory}
@@ -8,14 +8,13 @@ use Rattle.q4_cond.specs.declared.tree.Operator.{Operator}
 use Rattle.q4_cond.specs.declared.tree.Operator.TheVariants.{Subtract}
 use Rattle.q4_cond.specs.declared.tree.Node.{Node}
 use Rattle.q4_cond.specs.declared.tree.Token.{Token}
-use Rattle.q4_cond.specs.declared.tree.Token.TheVariants.{Sign, Not, Open, Close}
+use Rattle.q4_cond.specs.declared.tree.Token.TheVariants.{Sign, Not, Open}
 use Rattle.q4_cond.specs.declared.tree.Frame.{Frame}
-use Rattle.q4_cond.specs.declared.tree.Frame.TheVariants.{Pending, Inverting, Negating, Group}
+use Rattle.q4_cond.specs.declared.tree.Frame.TheVariants.{Inverting, Negating, Group}
 use Rattle.q4_cond.specs.declared.reader.Step.{Step}
 use Rattle.q4_cond.specs.declared.reader.Step.TheVariants.{Taken, Refused, TooDeep}
-use Rattle.q4_cond.specs.Tree.{level_of, left_level}
 use Rattle.q4_cond.proofs.Steps.{TopBelow, kept_stays, closed_none}
-use Rattle.q4_cond.specs.Machine.{State, Wants, Has, frame_level, wanted_level, open_count, kept_frames, closed_nodes, opened, pending, grouped, step, state_of, StepSays, OpenSays}
+use Rattle.q4_cond.specs.Machine.{State, Wants, Has, frame_level, wanted_level, open_count, kept_frames, closed_nodes, opened, step, state_of, StepSays, OpenSays}
 
 pub open_deep : (f : Frame) (fs : List Frame) (out : List Node) → 32 ≤ open_count fs → (opened 32 f fs out ≡ None) × (n : ℕ) × (32 ≤ n) × (opened n f fs out ≡ Some (Wants (f ∷ fs) out))
 open_deep f fs out le =

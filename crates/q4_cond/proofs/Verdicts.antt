@@ -1,23 +1,22 @@
 -- What a refused token, a refused end and an accepted end say of the grammar.
-use Rattle.std.proofs.Common.{◌≡◌, ℕ, zero, suc, ◌+◌, ◌<◌, ◌≤◌, List, [], ◌∷◌, ◌++◌, Bool, true, false, Option, Some, None, refl, sym, ap, ◌∙◌, subst, subst₂, cond, arith, append_assoc, append-nil, ltb, leb, ltb-true, lt-ltb}
+use Rattle.std.proofs.Common.{◌≡◌, ℕ, ◌+◌, ◌<◌, ◌≤◌, List, [], ◌∷◌, ◌++◌, Option, Some, None, refl, sym, ap, ◌∙◌, arith, append_assoc, append-nil, ltb, leb, ltb-true, lt-ltb}
 use Rattle.std.specs.Option.{option_and_then}
 use Rattle.std.proofs.lemmas.Bool.{cond-true}
 use Rattle.q4_cond.specs.declared.tree.Operator.{Operator}
 use Rattle.q4_cond.specs.declared.tree.Operator.TheVariants.{Or, And, Equal, Unequal, Below, AtMost, Above, AtLeast, Add, Subtract, Multiply, Divide, Remainder}
 use Rattle.q4_cond.specs.declared.tree.Node.{Node}
-use Rattle.q4_cond.specs.declared.tree.Node.TheVariants.{Leaf, Binary, Inverted, Negated}
 use Rattle.q4_cond.specs.declared.tree.Token.{Token}
 use Rattle.q4_cond.specs.declared.tree.Token.TheVariants.{Operand, Sign, Not, Open, Close, Bad}
 use Rattle.q4_cond.specs.declared.tree.Frame.{Frame}
 use Rattle.q4_cond.specs.declared.tree.Frame.TheVariants.{Inverting, Negating, Group}
-use Rattle.q4_cond.specs.Tree.{Tree, Simple, Two, NotOf, MinusOf, postfix}
-use Rattle.q4_cond.specs.Postfix.{build, tree_of, first_tree, nodes_of}
+use Rattle.q4_cond.specs.Tree.{Tree, postfix}
+use Rattle.q4_cond.specs.Postfix.{tree_of}
 use Rattle.q4_cond.specs.Condition.{tree_of-postfix}
 use Rattle.q4_cond.specs.Grammar.{Phrase, IsCondition, nothing, whole, BeginsWithin, Begins}
-use Rattle.q4_cond.specs.Machine.{State, Wants, Has, wanted_level, open_count, kept_frames, closed_nodes, opened, signed, step, run, ended, accepted}
+use Rattle.q4_cond.specs.Machine.{State, Wants, Has, wanted_level, open_count, closed_nodes, opened, signed, step, run, ended, accepted}
 use Rattle.q4_cond.proofs.Steps.{run-append, run_then, run_step, kept-tight, closed-tight}
-use Rattle.q4_cond.proofs.Complete.{Reads, complete}
-use Rattle.q4_cond.proofs.Sound.{Before, start, Reached, run_sound, run_begins, Accepts, accepted_sound, cond_some, cond_opened}
+use Rattle.q4_cond.proofs.Complete.{complete}
+use Rattle.q4_cond.proofs.Sound.{Before, start, run_sound, run_begins, Accepts, accepted_sound, cond_some, cond_opened}
 
 opened_up : (n m : ℕ) (f : Frame) (fs : List Frame) (out : List Node) (s : State) → n ≤ m → opened n f fs out ≡ Some s → opened m f fs out ≡ Some s
 opened_up n m f fs out s le e =

@@ -1,6 +1,6 @@
 -- What a contract sees of a condition.
 use Rattle.std.specs.Prelude.{◌≡◌, ℕ, List, [], ◌∷◌, ◌++◌, Option, Some, None, refl}
-use Rattle.std.proofs.Common.{sym, ap, ap₂, ◌∙◌, append_assoc, append-nil}
+use Rattle.std.proofs.Common.{sym, ap, ◌∙◌, append_assoc, append-nil}
 use Rattle.std.specs.Coded.{Coded, code_by}
 use Rattle.q4_value.specs.declared.column.Kind.{Kind}
 use Rattle.q4_cond.specs.declared.tree.Node.{Node}

@@ -1,5 +1,5 @@
 -- Which list of tokens spells which tree.
-use Rattle.std.specs.Prelude.{ℕ, suc, List, [], ◌∷◌, ◌++◌, Option, Some, None, ◌≢◌}
+use Rattle.std.specs.Prelude.{ℕ, suc, List, [], ◌∷◌, ◌++◌, Option, Some, None}
 use Rattle.q4_cond.specs.declared.tree.Operator.{Operator}
 use Rattle.q4_cond.specs.declared.tree.Operator.TheVariants.{Subtract}
 use Rattle.q4_cond.specs.declared.tree.Atom.{Atom}

@@ -1,5 +1,5 @@
 -- The misplaced texts of a tree, found in its nodes. No public clause cites it.
-use Rattle.std.specs.Prelude.{ℕ, List, [], ◌∷◌, Bool, true, false, not, ◌&&◌, ◌||◌}
+use Rattle.std.specs.Prelude.{List, [], ◌∷◌, Bool, false, not, ◌&&◌, ◌||◌}
 use Rattle.q4_value.specs.declared.column.Kind.{Kind}
 use Rattle.q4_cond.specs.declared.tree.Atom.{Atom}
 use Rattle.q4_cond.specs.declared.tree.Node.{Node}

@@ -1,5 +1,5 @@
 -- What a text reads as, and where each fault stands.
-use Rattle.std.specs.Prelude.{◌≡◌, ℕ, ◌+◌, ◌<◌, ◌≤◌, List, [], ◌∷◌, ◌++◌, length, map, Bool, true, false, ◌&&◌, nat_lt, if◌then◌else◌, Option, Some, None, slice_get, ◌⊎◌}
+use Rattle.std.specs.Prelude.{◌≡◌, ℕ, ◌<◌, ◌≤◌, List, [], ◌∷◌, ◌++◌, length, map, Bool, true, false, ◌&&◌, nat_lt, if◌then◌else◌, Option, Some, None, slice_get, ◌⊎◌}
 use Rattle.q4_value.specs.declared.column.Column.{Column}
 use Rattle.q4_value.specs.declared.column.Kind.{Kind}
 use Rattle.q4_value.specs.declared.column.Kind.TheVariants.{Int, Words}

@@ -1,5 +1,5 @@
 -- The text of a condition.
-use Rattle.std.specs.Prelude.{◌≡◌, ℕ, ◌-◌, List, [], ◌∷◌, ◌++◌, length, map, reverse, Option, Some, None, ◌&&◌, ◌==◌, nat_le, if◌then◌else◌, slice_get, slice_index}
+use Rattle.std.specs.Prelude.{ℕ, ◌-◌, List, [], ◌∷◌, ◌++◌, length, Option, Some, None, ◌&&◌, ◌==◌, nat_le, if◌then◌else◌, slice_get, slice_index}
 use Rattle.std.specs.Fmt.{signed_decimal}
 use Rattle.q4_cond.specs.declared.writing.Shown.{Shown}
 use Rattle.q4_cond.specs.declared.tree.Operator.{Operator}

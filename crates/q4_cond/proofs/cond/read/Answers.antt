@@ -1,7 +1,6 @@
-use Rattle.std.proofs.Common.{◌≡◌, ◌≤◌, length, false, sym, ap, ◌∙◌, subst, arith}
+use Rattle.std.proofs.Common.{◌≡◌, ◌≤◌, length, false, subst, arith}
 use Rattle.q4_cond.specs.Postfix.{tree_of}
-use Rattle.q4_cond.specs.Machine.{state_of}
-use Rattle.q4_cond.specs.Reading.{kinds_of, first_marked, IsRead, IsAt, IsNoColumn, IsKinds}
+use Rattle.q4_cond.specs.Reading.{first_marked, IsRead, IsAt, IsNoColumn, IsKinds}
 use Rattle.q4_cond.specs.Marks.{strays}
 use Rattle.q4_cond.proofs.Finish.{read_at_end, read_no_column, read_kinds, read_ok, read_invariant, marked_parts}
 use Rattle.q4_cond.proofs.cond.read.Goals as goal
