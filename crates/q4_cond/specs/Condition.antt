@@ -1,11 +1,13 @@
 -- What a contract sees of a condition.
-use Rattle.std.specs.Prelude.{◌≡◌, ℕ, List, [], ◌∷◌, ◌++◌, Option, Some, None, refl}
+use Rattle.std.specs.Prelude.{◌≡◌, ℕ, List, [], ◌∷◌, ◌++◌, length, Option, Some, None, refl}
 use Rattle.std.proofs.Common.{sym, ap, ◌∙◌, append_assoc, append-nil}
 use Rattle.std.specs.Coded.{Coded, code_by}
+use Rattle.q4_value.specs.declared.column.Column.{Column}
 use Rattle.q4_value.specs.declared.column.Kind.{Kind}
 use Rattle.q4_cond.specs.declared.tree.Node.{Node}
 use Rattle.q4_cond.specs.declared.tree.Node.TheVariants.{Binary, Inverted, Negated}
 use Rattle.q4_cond.specs.Tree.{Tree, Simple, Two, NotOf, MinusOf, postfix}
+use Rattle.q4_cond.specs.Reading.{IsRead, kinds_of}
 use Rattle.q4_cond.specs.Postfix.{build, first_tree, tree_of, nodes_of}
 
 -- its tree, none for the empty condition, the kinds of the columns that it was read with, and the length of the
@@ -14,6 +16,12 @@ pub record Condition : Type 0 where
   pub tree : Option Tree
   pub kinds : List Kind
   pub text_len : ℕ
+
+-- the text reads as this condition
+pub record ReadsAs (columns : List Column) (text : List ℕ) (cond : Condition) : Type 0 where
+  pub tree : IsRead columns text cond.tree
+  pub kinds : cond.kinds ≡ kinds_of columns
+  pub text_len : cond.text_len ≡ length text
 
 pub build-postfix : (t : Tree) (rest : List Node) (st : List Tree) → build (postfix t ++ rest) st ≡ build rest (t ∷ st)
 build-postfix (Simple a) rest st = refl

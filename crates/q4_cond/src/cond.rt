@@ -1,6 +1,7 @@
 ghost use Rattle.std.specs.Bool.{OnTrue};
+ghost use Rattle.std.specs.Prelude.{◌≡◌, ◌≤◌, length, IfOk, MatchResult};
+ghost use Rattle.q4_cond.specs.Condition.{ReadsAs};
 ghost use Rattle.q4_cond.specs.Postfix.{tree_of};
-ghost use Rattle.std.specs.Prelude.{◌≡◌, ◌<◌, ◌≤◌, length, IfOk, MatchResult, map};
 ghost use Rattle.q4_cond.specs.Reading.{kinds_of, IsRead, IsFault};
 ghost use Rattle.q4_cond.specs.Values.{meets};
 ghost use Rattle.q4_cond.specs.Tokens.{names_of};
@@ -32,10 +33,8 @@ pub struct Cond {
 }
 
 impl Model for Cond {
-    ghost use Rattle.std.specs.Bool.{OnTrue};
-    ghost use Rattle.q4_cond.specs.Postfix.{tree_of};
     ghost use Rattle.std.specs.Prelude.{◌≡◌, ◌≤◌, length};
-    ghost use Rattle.std.specs.Coded.{codes};
+    ghost use Rattle.std.specs.Coded.{coded×, coded_list, coded_ℕ};
     ghost use Rattle.q4_cond.specs.Condition.{Condition, condition_code};
     ghost use Rattle.q4_cond.specs.Postfix.{tree_of, nodes_of};
     ghost use Rattle.q4_cond.specs.contracts.tree.Node as node;
@@ -43,7 +42,7 @@ impl Model for Cond {
 
     ghost Value = { Condition };
 
-    ghost coded = { condition_code (Prim.hlevel (codes, node.the_row.coded, kind.the_row.coded)) };
+    ghost coded = { condition_code (coded× (coded_list node.the_row.coded) (coded× (coded_list kind.the_row.coded) coded_ℕ)) };
 
     ghost view = { λ c. record { tree = tree_of c.nodes.items; kinds = c.kinds.items; text_len = c.text_len } };
 
@@ -131,9 +130,10 @@ impl Cond {
     }
 }
 
-/// Reads a condition on rows of these columns.
+/// Reads a condition on rows of these columns: its tokens, its grammar and its values are those of the document on
+/// formats. A fault tells the first place that is at fault, in bytes from 0.
 pub fn read(alloc: Global, text: &str, columns: &[Column]) -> Result<Cond, CondFault>
-    ensures { MatchResult result (λ cond. IsRead columns.now text.now cond.tree × (cond.kinds ≡ kinds_of columns.now) × (cond.text_len ≡ length text.now)) (λ fault. IsFault columns.now text.now fault) }
+    ensures { MatchResult result (ReadsAs columns.now text.now) (IsFault columns.now text.now) }
 {
     let bytes = text.as_bytes();
     if bytes.len() > LONGEST {
@@ -159,7 +159,8 @@ pub fn read(alloc: Global, text: &str, columns: &[Column]) -> Result<Cond, CondF
     })
 }
 
-/// Whether the row meets the condition: its value is present and not 0. It takes no memory, and looks at each node once.
+/// Whether the row meets the condition: its value is present and not 0. It takes no memory, and looks at each part
+/// of the condition once. For a row that fits the columns of the reading, the value is that of the document on formats.
 pub fn met(cond: &Cond, row: &Row) -> bool
     ensures { result ≡ meets row.now cond.now.tree }
 {
@@ -185,7 +186,8 @@ fn reads_back(alloc: Global, nodes: &[Node], text: &str, columns: &[Column]) -> 
 
 /// The text of a condition on these columns, which are those that it was read with: parentheses stand only where
 /// the grammar needs them, and one space stands between two words or numbers. What was written is read again before
-/// it is handed out.
+/// it is handed out, so that on other columns than those of the reading nothing else is shown: there it may answer
+/// want of memory.
 pub fn show(alloc: Global, cond: &Cond, columns: &[Column]) -> Result<Words, NoMemory>
     ensures text { IfOk result (λ words. words ≡ condition_text (names_of columns.now) cond.now.tree) }
     ensures reads_back { IfOk result (λ words. IsRead columns.now words cond.now.tree) }

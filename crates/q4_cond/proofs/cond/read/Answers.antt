@@ -37,9 +37,10 @@ pub returns : goal.returns
 returns c =
     let bytes = c.as_bytes-bytes.result.now in
     let short : length bytes ≤ 1024 = omega arith in
-    let o : c.first_misplaced.result ≡ first_marked (strays c.in_ok-kinds.kinds.items false c.in-Some.nodes.items) c.in_ok-scan.scan.atoms.items = marked_parts _ _ _ _ _ _ _ c.first_misplaced.ensures c.deref.ensures.value c.deref-2.ensures.value c.deref-3.ensures.value in (
-      subst (λ t. IsRead c.args.columns.now t (tree_of c.in-Some.nodes.items)) c.as_bytes-bytes.ensures.value
-          (read_ok c.args.columns.now bytes _ _ _ c.in-Some.nodes.items c.in_ok-kinds.kinds.items c.first_misplaced.result short c.in_ok-scan.ensures.scanned (rw c.in-Some.is at c.in_ok-nodes.ensures) c.in_default-unknown.is c.in_ok-kinds.ensures o c.in_default-first_misplaced.is),
-      c.in_ok-kinds.ensures,
-      c.as_bytes-bytes.ensures.len,
-    )
+    let o : c.first_misplaced.result ≡ first_marked (strays c.in_ok-kinds.kinds.items false c.in-Some.nodes.items) c.in_ok-scan.scan.atoms.items = marked_parts _ _ _ _ _ _ _ c.first_misplaced.ensures c.deref.ensures.value c.deref-2.ensures.value c.deref-3.ensures.value in
+    record {
+      tree = subst (λ t. IsRead c.args.columns.now t (tree_of c.in-Some.nodes.items)) c.as_bytes-bytes.ensures.value
+          (read_ok c.args.columns.now bytes _ _ _ c.in-Some.nodes.items c.in_ok-kinds.kinds.items c.first_misplaced.result short c.in_ok-scan.ensures.scanned (rw c.in-Some.is at c.in_ok-nodes.ensures) c.in_default-unknown.is c.in_ok-kinds.ensures o c.in_default-first_misplaced.is);
+      kinds = c.in_ok-kinds.ensures;
+      text_len = c.as_bytes-bytes.ensures.len;
+    }
