@@ -264,7 +264,7 @@ fn conditions_are_shown(rt: HostRuntime) -> Result<(), Fail> {
         ("1 or (n or 2)", "1 or(n or 2)"),
         ("(n < 2) < (3 > 1)", "(n<2)<(3>1)"),
         ("body <> 'it''s' and 'ö' = body", "body<>'it''s'and'ö'=body"),
-        ("(((body))) = ()", "body="),
+        ("(((body))) = ('''')", "body=''''"),
         ("0 <= n", "0<=n"),
     ];
     let columns = columns(rt.alloc())?;
