@@ -1,0 +1,11 @@
+pub mod Steps
+pub mod Complete
+pub mod Sound
+pub mod Verdicts
+pub mod Lexing
+pub mod Taking
+pub mod Scanning
+pub mod Marking
+pub mod Finish
+pub mod Meaning
+pub mod Showing

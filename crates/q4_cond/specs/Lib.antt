@@ -1,0 +1,12 @@
+pub mod Tokens
+pub mod Tree
+pub mod Grammar
+pub mod Machine
+pub mod Postfix
+pub mod Reading
+pub mod Scanned
+pub mod Marks
+pub mod Condition
+pub mod Values
+pub mod Execution
+pub mod Shown

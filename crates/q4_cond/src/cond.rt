@@ -1,0 +1,204 @@
+ghost use Rattle.std.specs.Bool.{OnTrue};
+ghost use Rattle.std.specs.Prelude.{◌≡◌, ◌≤◌, length, IfOk, MatchResult};
+ghost use Rattle.q4_cond.specs.Condition.{ReadsAs};
+ghost use Rattle.q4_cond.specs.Postfix.{tree_of};
+ghost use Rattle.q4_cond.specs.Reading.{kinds_of, IsRead, IsFault};
+ghost use Rattle.q4_cond.specs.Values.{meets};
+ghost use Rattle.q4_cond.specs.Tokens.{names_of};
+ghost use Rattle.q4_cond.specs.Shown.{condition_text};
+
+use crate::CondFault;
+use crate::kinds::first_misplaced;
+use crate::same::same_nodes;
+use crate::scan::scan_text;
+use crate::tree::{Atom, Node};
+use crate::value::execute;
+use crate::writing::write_nodes;
+use q4_value::{Bytes, Column, Kind, NoMemory, Row, Words};
+use std::alloc::Global;
+use std::marker::Model;
+
+/// The most bytes that a condition's text may have.
+const LONGEST: usize = 1024;
+
+/// A condition on the rows of a table. A contract sees its tree, the kinds of its columns, and the length of the
+/// text that it was read from.
+#[derive(Drop)]
+pub struct Cond {
+    /// The tree in postfix order; none for the empty condition.
+    nodes: Vec<Node>,
+    kinds: Vec<Kind>,
+    /// How many bytes the text had.
+    text_len: usize,
+}
+
+impl Model for Cond {
+    ghost use Rattle.std.specs.Prelude.{◌≡◌, ◌≤◌, length};
+    ghost use Rattle.std.specs.Coded.{coded×, coded_list, coded_ℕ};
+    ghost use Rattle.q4_cond.specs.Condition.{Condition, condition_code};
+    ghost use Rattle.q4_cond.specs.Postfix.{tree_of, nodes_of};
+    ghost use Rattle.q4_cond.specs.contracts.tree.Node as node;
+    ghost use Rattle.q4_value.specs.contracts.column.Kind as kind;
+
+    ghost Value = { Condition };
+
+    ghost coded = { condition_code (coded× (coded_list node.the_row.coded) (coded× (coded_list kind.the_row.coded) coded_ℕ)) };
+
+    ghost view = { λ c. record { tree = tree_of c.nodes.items; kinds = c.kinds.items; text_len = c.text_len } };
+
+    ghost invariant = { λ c. (nodes_of (tree_of c.nodes.items) ≡ c.nodes.items) × (length c.nodes.items ≤ 1024) };
+}
+
+impl Atom {
+    fn copy(&self, alloc: Global) -> Result<Atom, NoMemory>
+        ensures { IfOk result (λ atom. atom ≡ self.now) }
+    {
+        match self {
+            Atom::Column(column) => Ok(Atom::Column(*column)),
+            Atom::Number(number) => Ok(Atom::Number(*number)),
+            Atom::Text(text) => {
+                let mut copied = Bytes::new(alloc);
+                copied.push(text.as_slice())?;
+                Ok(Atom::Text(copied))
+            }
+        }
+    }
+}
+
+impl Node {
+    fn copy(&self, alloc: Global) -> Result<Node, NoMemory>
+        ensures { IfOk result (λ node. node ≡ self.now) }
+    {
+        match self {
+            Node::Leaf(atom) => Ok(Node::Leaf(atom.copy(alloc)?)),
+            Node::Binary(operator) => Ok(Node::Binary(*operator)),
+            Node::Inverted => Ok(Node::Inverted),
+            Node::Negated => Ok(Node::Negated),
+        }
+    }
+}
+
+fn copy_nodes(alloc: Global, nodes: &[Node]) -> Result<Vec<Node>, NoMemory>
+    ensures { IfOk result (λ copied. copied.items ≡ nodes.now) }
+{
+    let mut copied = Vec::new(alloc);
+    for node in nodes {
+        let node = node.copy(alloc)?;
+        if copied.push(node).is_err() {
+            return Err(NoMemory);
+        }
+    }
+    Ok(copied)
+}
+
+fn copy_kinds(alloc: Global, kinds: &[Kind]) -> Result<Vec<Kind>, NoMemory>
+    ensures { IfOk result (λ copied. copied.items ≡ kinds.now) }
+{
+    let mut copied = Vec::new(alloc);
+    for kind in kinds {
+        if copied.push(*kind).is_err() {
+            return Err(NoMemory);
+        }
+    }
+    Ok(copied)
+}
+
+fn kinds_of(alloc: Global, columns: &[Column]) -> Result<Vec<Kind>, NoMemory>
+    ensures { IfOk result (λ kinds. kinds.items ≡ kinds_of columns.now) }
+{
+    let mut kinds = Vec::new(alloc);
+    for column in columns {
+        if kinds.push(column.kind).is_err() {
+            return Err(NoMemory);
+        }
+    }
+    Ok(kinds)
+}
+
+impl Cond {
+    /// The same condition, in memory of its own.
+    pub fn copy(&self, alloc: Global) -> Result<Cond, NoMemory>
+        ensures { IfOk result (λ cond. cond ≡ self.now) }
+    {
+        let nodes = copy_nodes(alloc, &self.nodes)?;
+        let kinds = copy_kinds(alloc, &self.kinds)?;
+        Ok(Cond {
+            nodes,
+            kinds,
+            text_len: self.text_len,
+        })
+    }
+}
+
+/// Reads a condition on rows of these columns: its tokens, its grammar and its values are those of the document on
+/// formats. A fault tells the first place that is at fault, in bytes from 0.
+pub fn read(alloc: Global, text: &str, columns: &[Column]) -> Result<Cond, CondFault>
+    ensures { MatchResult result (ReadsAs columns.now text.now) (IsFault columns.now text.now) }
+{
+    let bytes = text.as_bytes();
+    if bytes.len() > LONGEST {
+        return Err(CondFault::Long);
+    }
+    let scan = scan_text(alloc, columns, bytes)?;
+    let unknown = scan.unknown;
+    let atoms = scan.atoms;
+    let Some(nodes) = scan.reader.finish()? else {
+        return Err(CondFault::At(bytes.len() as u32));
+    };
+    if let Some(place) = unknown {
+        return Err(CondFault::NoColumn(place));
+    }
+    let kinds = kinds_of(alloc, columns)?;
+    if let Some(place) = first_misplaced(&kinds, &nodes, &atoms) {
+        return Err(CondFault::Kinds(place));
+    }
+    Ok(Cond {
+        nodes,
+        kinds,
+        text_len: bytes.len(),
+    })
+}
+
+/// Whether the row meets the condition: its value is present and not 0. It takes no memory, and looks at each part
+/// of the condition once. For a row that fits the columns of the reading, the value is that of the document on formats.
+pub fn met(cond: &Cond, row: &Row) -> bool
+    ensures { result ≡ meets row.now cond.now.tree }
+{
+    let nodes = cond.nodes.as_slice();
+    if nodes.len() <= 16 {
+        execute::<16>(nodes, row)
+    } else if nodes.len() <= 128 {
+        execute::<128>(nodes, row)
+    } else {
+        execute::<1024>(nodes, row)
+    }
+}
+
+/// Whether the text reads as these nodes.
+fn reads_back(alloc: Global, nodes: &[Node], text: &str, columns: &[Column]) -> bool
+    ensures { OnTrue result (IsRead columns.now text.now (tree_of nodes.now)) }
+{
+    match read(alloc, text, columns) {
+        Ok(again) => same_nodes(&again.nodes, nodes),
+        Err(_) => false,
+    }
+}
+
+/// The text of a condition on these columns, which are those that it was read with: parentheses stand only where
+/// the grammar needs them, and one space stands between two words or numbers. What was written is read again before
+/// it is handed out, so that on other columns than those of the reading nothing else is shown: there it may answer
+/// want of memory.
+pub fn show(alloc: Global, cond: &Cond, columns: &[Column]) -> Result<Words, NoMemory>
+    ensures text { IfOk result (λ words. words ≡ condition_text (names_of columns.now) cond.now.tree) }
+    ensures reads_back { IfOk result (λ words. IsRead columns.now words cond.now.tree) }
+    ensures no_longer { IfOk result (λ words. length words ≤ cond.now.text_len) }
+{
+    let bytes = write_nodes(alloc, &cond.nodes, columns)?;
+    let Ok(text) = std::str::from_utf8(bytes.as_slice()) else {
+        return Err(NoMemory);
+    };
+    if text.len() > cond.text_len || !reads_back(alloc, &cond.nodes, text, columns) {
+        return Err(NoMemory);
+    }
+    Words::new(alloc, text)
+}
