@@ -18,18 +18,18 @@ use Rattle.q4_machine.specs.declared.table.Added.{Added}
 use Rattle.q4_machine.specs.declared.table.Added.TheVariants.{New}
 use Rattle.q4_machine.specs.declared.desk.ModeFault.TheVariants as fault
 use Rattle.q4_machine.specs.Step.{end_reply, look_reply, added_reply}
-use Rattle.q4_machine.specs.History.{state_after, is_change, is_owner, IsSettled, IsOpenFor}
+use Rattle.q4_machine.specs.History.{state_after, is_added, is_change, is_owner, IsSettled, SyncsAreOwed, IsOpenFor}
 use Rattle.q4_machine.specs.Parts.{calls_of, of_caller, Answer, Replied, ends_first, ending, Stands, IsPart, IsInOrder, Grows, IsOpened, IsClosed, insert_answer, wait_answer, end_answer}
 use Rattle.q4_machine.specs.Recorded.{Recorded, DeskState, entry, pushed, HasRoom, IsSound}
 use Rattle.q4_machine.specs.OneDesk.{IsDesk}
 use Rattle.q4_machine.proofs.Lookup.{some_of}
 use Rattle.q4_machine.proofs.Validity.{none_some}
-use Rattle.q4_machine.proofs.Histories.{state_push, settled_push, settled_by_sync}
+use Rattle.q4_machine.proofs.Histories.{state_push, settled_push, settled_by_sync, unsettled_push, unsettled_more, owed_push}
 
 -- ## A desk, from what holds of its history
 
-pub desk_of : (r : Recorded) (current : Option ℕ) (s : ℕ) → current ≡ Some s → IsSound r.seen → IsOpenFor r.seen 0 s → ((place : ℕ) → IsSettled r.seen place) → HasRoom r 1 → IsDesk r current
-desk_of r current s is sound open_for settled room = record {
+pub desk_of : (r : Recorded) (current : Option ℕ) (s : ℕ) → current ≡ Some s → IsSound r.seen → IsOpenFor r.seen 0 s → ((place : ℕ) → IsSettled r.seen place) → SyncsAreOwed r.seen → HasRoom r 1 → IsDesk r current
+desk_of r current s is sound open_for settled owed room = record {
   in_order = record {
     legal = sound.legal;
     one_table = sound.one_table;
@@ -37,6 +37,7 @@ desk_of r current s is sound open_for settled room = record {
   };
   sound = sound;
   settled = settled;
+  owed = owed;
   room = λ k here. room;
 }
 
@@ -46,6 +47,7 @@ desk_reserved r r' current desk same more = record {
   in_order = subst (λ h. IsInOrder h 0 current) (sym same) desk.in_order;
   sound = subst IsSound (sym same) desk.sound;
   settled = λ place. subst (λ h. IsSettled h place) (sym same) (desk.settled place);
+  owed = subst SyncsAreOwed (sym same) desk.owed;
   room = λ s is.
       let old = desk.room s is in
       let size : length r'.seen ≡ length r.seen = ap length same in
@@ -58,9 +60,9 @@ pub record Called (old : List Entry) (r : Recorded) (current : Option ℕ) (s : 
   pub part : Grows old r.seen (λ grown. IsPart old grown 0 s call answer)
 
 called : (old grown : List Entry) (r : Recorded) (current : Option ℕ) (s : ℕ) (call : Call) (answer : Answer) → current ≡ Some s → r.seen ≡ old ++ grown → IsSound r.seen → IsOpenFor r.seen 0 s → HasRoom r 1
-    → ((place : ℕ) → IsSettled (old ++ grown) place) → IsPart old grown 0 s call answer → Called old r current s call answer
-called old grown r current s call answer is grew sound open_for room settled part = record {
-  desk = desk_of r current s is sound open_for (λ place. subst (λ h. IsSettled h place) (sym grew) (settled place)) room;
+    → ((place : ℕ) → IsSettled (old ++ grown) place) → SyncsAreOwed (old ++ grown) → IsPart old grown 0 s call answer → Called old r current s call answer
+called old grown r current s call answer is grew sound open_for room settled owed part = record {
+  desk = desk_of r current s is sound open_for (λ place. subst (λ h. IsSettled h place) (sym grew) (settled place)) (subst SyncsAreOwed (sym grew) owed) room;
   part = (grown, grew, part);
 }
 
@@ -77,6 +79,12 @@ settled_two h a b settled place = subst (λ x. IsSettled x place) (push_two h a 
 
 settled_three : (h : List Entry) (a b c : Entry) → ((place : ℕ) → IsSettled (((h ++ a ∷ []) ++ b ∷ []) ++ c ∷ []) place) → (place : ℕ) → IsSettled (h ++ (a ∷ b ∷ c ∷ [])) place
 settled_three h a b c settled place = subst (λ x. IsSettled x place) (push_three h a b c) (settled place)
+
+owed_two : (h : List Entry) (a b : Entry) → SyncsAreOwed ((h ++ a ∷ []) ++ b ∷ []) → SyncsAreOwed (h ++ (a ∷ b ∷ []))
+owed_two h a b owed = subst SyncsAreOwed (push_two h a b) owed
+
+owed_three : (h : List Entry) (a b c : Entry) → SyncsAreOwed (((h ++ a ∷ []) ++ b ∷ []) ++ c ∷ []) → SyncsAreOwed (h ++ (a ∷ b ∷ c ∷ []))
+owed_three h a b c owed = subst SyncsAreOwed (push_three h a b c) owed
 
 -- ## Parts
 
@@ -161,50 +169,50 @@ owner_other t n is = cc is
 
 -- ## Insert
 
-pub inserted : (h : List Entry) (r1 r2 r3 : Recorded) (current : Option ℕ) (s t : ℕ) (row : List Value) (r : Reply) → current ≡ Some s → r1.seen ≡ h → HasRoom r1 3 → r2 ≡ pushed r1 s (Insert t row) r → r3 ≡ pushed r2 s Sync reply.Done
+pub inserted : (h : List Entry) (r1 r2 r3 : Recorded) (current : Option ℕ) (s t : ℕ) (row : List Value) (r : Reply) → current ≡ Some s → r1.seen ≡ h → HasRoom r1 3 → r2 ≡ pushed r1 s (Insert t row) r → r3 ≡ pushed r2 s Sync reply.Done → SyncsAreOwed h → is_added r ≡ true
     → IsSound r3.seen → IsOpenFor r3.seen 0 s → Called h r3 current s (Insert t row) (Replied r)
-inserted h r1 r2 r3 current s t row r is same room first second sound open_for =
+inserted h r1 r2 r3 current s t row r is same room first second owed added sound open_for =
     let a = entry s (Insert t row) r in
     let b = entry s Sync reply.Done in
     let seen2 : r2.seen ≡ h ++ a ∷ [] = ap (λ (x : Recorded). x.seen) first ∙ ap (λ x. x ++ a ∷ []) same in
     let seen3 : r3.seen ≡ (h ++ a ∷ []) ++ b ∷ [] = ap (λ (x : Recorded). x.seen) second ∙ ap (λ x. x ++ b ∷ []) seen2 in
     let grew : r3.seen ≡ h ++ (a ∷ b ∷ []) = seen3 ∙ push_two h a b in
     let settled = settled_two h a b (settled_by_sync (h ++ a ∷ []) b refl) in
-    called h (a ∷ b ∷ []) r3 current s (Insert t row) (Replied r) is grew sound open_for (room_two r1 r2 r3 a b room first second) settled (synced_part h s (Insert t row) r refl settled)
+    called h (a ∷ b ∷ []) r3 current s (Insert t row) (Replied r) is grew sound open_for (room_two r1 r2 r3 a b room first second) settled (owed_two h a b (owed_push (h ++ a ∷ []) b (owed_push h a owed (λ e. cc e)) (λ _. unsettled_push h a added))) (synced_part h s (Insert t row) r refl settled)
 
 -- ## End
 
 -- an end that removed a row, and its sync
-pub ended_synced : (h : List Entry) (r1 r2 r3 : Recorded) (current : Option ℕ) (s : ℕ) (r : Reply) → current ≡ Some s → r1.seen ≡ h → HasRoom r1 3 → r2 ≡ pushed r1 s End r → r3 ≡ pushed r2 s Sync reply.Done
+pub ended_synced : (h : List Entry) (r1 r2 r3 : Recorded) (current : Option ℕ) (s : ℕ) (r : Reply) → current ≡ Some s → r1.seen ≡ h → HasRoom r1 3 → r2 ≡ pushed r1 s End r → r3 ≡ pushed r2 s Sync reply.Done → SyncsAreOwed h → is_owner (mode_of (state_after h) s) ≡ true
     → IsSound r3.seen → IsOpenFor r3.seen 0 s → Called h r3 current s End (Replied r)
-ended_synced h r1 r2 r3 current s r is same room first second sound open_for =
+ended_synced h r1 r2 r3 current s r is same room first second owed owner sound open_for =
     let a = entry s End r in
     let b = entry s Sync reply.Done in
     let seen2 : r2.seen ≡ h ++ a ∷ [] = ap (λ (x : Recorded). x.seen) first ∙ ap (λ x. x ++ a ∷ []) same in
     let seen3 : r3.seen ≡ (h ++ a ∷ []) ++ b ∷ [] = ap (λ (x : Recorded). x.seen) second ∙ ap (λ x. x ++ b ∷ []) seen2 in
     let grew : r3.seen ≡ h ++ (a ∷ b ∷ []) = seen3 ∙ push_two h a b in
     let settled = settled_two h a b (settled_by_sync (h ++ a ∷ []) b refl) in
-    called h (a ∷ b ∷ []) r3 current s End (Replied r) is grew sound open_for (room_two r1 r2 r3 a b room first second) settled (synced_part h s End r refl settled)
+    called h (a ∷ b ∷ []) r3 current s End (Replied r) is grew sound open_for (room_two r1 r2 r3 a b room first second) settled (owed_two h a b (owed_push (h ++ a ∷ []) b (owed_push h a owed (λ e. cc e)) (λ _. unsettled_push h a owner))) (synced_part h s End r refl settled)
 
 -- an end that removed no row
-pub ended_calm : (h : List Entry) (r1 r2 : Recorded) (current : Option ℕ) (s : ℕ) (r : Reply) → current ≡ Some s → r1.seen ≡ h → HasRoom r1 3 → r2 ≡ pushed r1 s End r → ((place : ℕ) → IsSettled h place) → is_owner (mode_of (state_after h) s) ≡ false
+pub ended_calm : (h : List Entry) (r1 r2 : Recorded) (current : Option ℕ) (s : ℕ) (r : Reply) → current ≡ Some s → r1.seen ≡ h → HasRoom r1 3 → r2 ≡ pushed r1 s End r → ((place : ℕ) → IsSettled h place) → SyncsAreOwed h → is_owner (mode_of (state_after h) s) ≡ false
     → IsSound r2.seen → IsOpenFor r2.seen 0 s → Called h r2 current s End (Replied r)
-ended_calm h r1 r2 current s r is same room first was calm sound open_for =
+ended_calm h r1 r2 current s r is same room first was owed calm sound open_for =
     let a = entry s End r in
     let grew : r2.seen ≡ h ++ a ∷ [] = ap (λ (x : Recorded). x.seen) first ∙ ap (λ x. x ++ a ∷ []) same in
     let settled = settled_push h a was calm in
-    called h (a ∷ []) r2 current s End (Replied r) is grew sound open_for (room_one r1 r2 a room first) settled (single_part h s End r refl refl settled)
+    called h (a ∷ []) r2 current s End (Replied r) is grew sound open_for (room_one r1 r2 a room first) settled (owed_push h a owed (λ e. cc e)) (single_part h s End r refl refl settled)
 
 -- ## Wait
 
 -- a look in non-owner mode
-pub looked_only : (h : List Entry) (r1 r2 : Recorded) (current : Option ℕ) (s : ℕ) (list : List ℕ) (r : Reply) → current ≡ Some s → r1.seen ≡ h → HasRoom r1 4 → r2 ≡ pushed r1 s (Look list) r → ((place : ℕ) → IsSettled h place) → mode_of (state_after h) s ≡ Some NonOwner
+pub looked_only : (h : List Entry) (r1 r2 : Recorded) (current : Option ℕ) (s : ℕ) (list : List ℕ) (r : Reply) → current ≡ Some s → r1.seen ≡ h → HasRoom r1 4 → r2 ≡ pushed r1 s (Look list) r → ((place : ℕ) → IsSettled h place) → SyncsAreOwed h → mode_of (state_after h) s ≡ Some NonOwner
     → IsSound r2.seen → IsOpenFor r2.seen 0 s → Called h r2 current s (Look list) (Replied r)
-looked_only h r1 r2 current s list r is same room first was mode sound open_for =
+looked_only h r1 r2 current s list r is same room first was owed mode sound open_for =
     let a = entry s (Look list) r in
     let grew : r2.seen ≡ h ++ a ∷ [] = ap (λ (x : Recorded). x.seen) first ∙ ap (λ x. x ++ a ∷ []) same in
     let settled = settled_push h a was refl in
-    called h (a ∷ []) r2 current s (Look list) (Replied r) is grew sound open_for (room_look r1 r2 a room first) settled (single_part h s (Look list) r refl (ap (ends_first (Look list)) mode) settled)
+    called h (a ∷ []) r2 current s (Look list) (Replied r) is grew sound open_for (room_look r1 r2 a room first) settled (owed_push h a owed (λ e. cc e)) (single_part h s (Look list) r refl (ap (ends_first (Look list)) mode) settled)
 
 -- an end in owner mode is answered `Done`
 end_done : (result : Result (Option (ℕ × ℕ)) Refusal) (o : Option SessionMode) → OnErr result (o ≡ Some NonOwner) → (o ≡ Some NonOwner → ⊥) → end_reply result ≡ reply.Done
@@ -213,9 +221,9 @@ end_done (Err refusal) o refused other = absurd (other refused)
 
 -- a look that ends first, and removes no row
 pub looked_empty : (h : List Entry) (r1 r2 r3 : Recorded) (current : Option ℕ) (s : ℕ) (list : List ℕ) (r : Reply) (result : Result (Option (ℕ × ℕ)) Refusal) → current ≡ Some s → r1.seen ≡ h → HasRoom r1 4
-    → r2 ≡ pushed r1 s End (end_reply result) → r3 ≡ pushed r2 s (Look list) r → OnErr result (mode_of (state_after h) s ≡ Some NonOwner) → ((place : ℕ) → IsSettled h place) → mode_of (state_after h) s ≡ Some Empty
+    → r2 ≡ pushed r1 s End (end_reply result) → r3 ≡ pushed r2 s (Look list) r → OnErr result (mode_of (state_after h) s ≡ Some NonOwner) → ((place : ℕ) → IsSettled h place) → SyncsAreOwed h → mode_of (state_after h) s ≡ Some Empty
     → IsSound r3.seen → IsOpenFor r3.seen 0 s → Called h r3 current s (Look list) (Replied r)
-looked_empty h r1 r2 r3 current s list r result is same room first second refused was mode sound open_for =
+looked_empty h r1 r2 r3 current s list r result is same room first second refused was owed mode sound open_for =
     let done = end_done result (mode_of (state_after h) s) refused (λ other. absurd (not_both Empty (sym mode ∙ other) empty_other)) in
     let a = entry s End reply.Done in
     let b = entry s (Look list) r in
@@ -223,7 +231,7 @@ looked_empty h r1 r2 r3 current s list r result is same room first second refuse
     let seen3 : r3.seen ≡ (h ++ a ∷ []) ++ b ∷ [] = ap (λ (x : Recorded). x.seen) second ∙ ap (λ x. x ++ b ∷ []) seen2 in
     let grew : r3.seen ≡ h ++ (a ∷ b ∷ []) = seen3 ∙ push_two h a b in
     let settled = settled_two h a b (settled_push (h ++ a ∷ []) b (settled_push h a was (ap is_owner mode)) refl) in
-    called h (a ∷ b ∷ []) r3 current s (Look list) (Replied r) is grew sound open_for (room_look_two r1 r2 r3 (entry s End (end_reply result)) b room first second) settled
+    called h (a ∷ b ∷ []) r3 current s (Look list) (Replied r) is grew sound open_for (room_look_two r1 r2 r3 (entry s End (end_reply result)) b room first second) settled (owed_two h a b (owed_push (h ++ a ∷ []) b (owed_push h a owed (λ e. cc e)) (λ e. cc e)))
     (record {
       session_is = of_session s a (b ∷ []) refl (of_session s b [] refl (All-nil (λ (x : Entry). x.session ≡ s)));
       cases = record { front = a ∷ []; back = []; cut = refl; own_front = ap (λ x. ending x 0 s) (sym (ap (ends_first (Look list)) mode)); own_back = refl; settled = settled (length (h ++ a ∷ [])) };
@@ -231,9 +239,9 @@ looked_empty h r1 r2 r3 current s list r result is same room first second refuse
 
 -- a look that ends first, and removes a row
 pub looked_owner : (h : List Entry) (r1 r2 r3 r4 : Recorded) (current : Option ℕ) (s t n : ℕ) (list : List ℕ) (r : Reply) (result : Result (Option (ℕ × ℕ)) Refusal) → current ≡ Some s → r1.seen ≡ h → HasRoom r1 4
-    → r2 ≡ pushed r1 s End (end_reply result) → r3 ≡ pushed r2 s (Look list) r → r4 ≡ pushed r3 s Sync reply.Done → OnErr result (mode_of (state_after h) s ≡ Some NonOwner) → mode_of (state_after h) s ≡ Some (Owner t n)
+    → r2 ≡ pushed r1 s End (end_reply result) → r3 ≡ pushed r2 s (Look list) r → r4 ≡ pushed r3 s Sync reply.Done → OnErr result (mode_of (state_after h) s ≡ Some NonOwner) → SyncsAreOwed h → mode_of (state_after h) s ≡ Some (Owner t n)
     → IsSound r4.seen → IsOpenFor r4.seen 0 s → Called h r4 current s (Look list) (Replied r)
-looked_owner h r1 r2 r3 r4 current s t n list r result is same room first second third refused mode sound open_for =
+looked_owner h r1 r2 r3 r4 current s t n list r result is same room first second third refused owed mode sound open_for =
     let done = end_done result (mode_of (state_after h) s) refused (λ other. absurd (not_both (Owner t n) (sym mode ∙ other) (owner_other t n))) in
     let a = entry s End reply.Done in
     let b = entry s (Look list) r in
@@ -243,7 +251,7 @@ looked_owner h r1 r2 r3 r4 current s t n list r result is same room first second
     let seen4 : r4.seen ≡ ((h ++ a ∷ []) ++ b ∷ []) ++ e ∷ [] = ap (λ (x : Recorded). x.seen) third ∙ ap (λ x. x ++ e ∷ []) seen3 in
     let grew : r4.seen ≡ h ++ (a ∷ b ∷ e ∷ []) = seen4 ∙ push_three h a b e in
     let settled = settled_three h a b e (settled_by_sync ((h ++ a ∷ []) ++ b ∷ []) e refl) in
-    called h (a ∷ b ∷ e ∷ []) r4 current s (Look list) (Replied r) is grew sound open_for (room_three r1 r2 r3 r4 (entry s End (end_reply result)) b e room first second third) settled
+    called h (a ∷ b ∷ e ∷ []) r4 current s (Look list) (Replied r) is grew sound open_for (room_three r1 r2 r3 r4 (entry s End (end_reply result)) b e room first second third) settled (owed_three h a b e (owed_push ((h ++ a ∷ []) ++ b ∷ []) e (owed_push (h ++ a ∷ []) b (owed_push h a owed (λ x. cc x)) (λ x. cc x)) (λ _. unsettled_more h a b (ap is_owner mode) (λ x. cc x))))
     (record {
       session_is = of_session s a (b ∷ e ∷ []) refl (of_session s b (e ∷ []) refl (of_session s e [] refl (All-nil (λ (x : Entry). x.session ≡ s))));
       cases = record { front = a ∷ []; back = e ∷ []; cut = refl; own_front = ap (λ x. ending x 0 s) (sym (ap (ends_first (Look list)) mode)); own_back = refl; settled = settled (length (h ++ a ∷ [])) };
@@ -269,28 +277,33 @@ wait_replied None = refl
 pub insert_replied : (added : Added) → Replied (added_reply added) ≡ insert_answer (Ok added)
 insert_replied (New number) = refl
 
+-- a row that was added is a change
+pub added_changes : (added : Added) → is_added (added_reply added) ≡ true
+added_changes (New number) = refl
+
 pub end_refused : (refusal : Refusal) → Replied (reply.Refused refusal) ≡ end_answer (Err fault.NotOwner)
 end_refused NotOwner = refl
 
 -- ## Opening and closing
 
-pub opened_desk : (h : List Entry) (r1 r2 : Recorded) (s : ℕ) → r1.seen ≡ h → HasRoom r1 2 → r2 ≡ pushed r1 s Open (reply.Session s) → ((place : ℕ) → IsSettled h place) → IsSound r2.seen → IsOpenFor r2.seen 0 s
+pub opened_desk : (h : List Entry) (r1 r2 : Recorded) (s : ℕ) → r1.seen ≡ h → HasRoom r1 2 → r2 ≡ pushed r1 s Open (reply.Session s) → ((place : ℕ) → IsSettled h place) → SyncsAreOwed h → IsSound r2.seen → IsOpenFor r2.seen 0 s
     → IsDesk r2 (Some s) × Grows h r2.seen (λ grown. IsOpened 0 grown (Ok s))
-opened_desk h r1 r2 s same room first was sound open_for =
+opened_desk h r1 r2 s same room first was owed sound open_for =
     let a = entry s Open (reply.Session s) in
     let grew : r2.seen ≡ h ++ a ∷ [] = ap (λ (x : Recorded). x.seen) first ∙ ap (λ x. x ++ a ∷ []) same in
     let settled = λ (place : ℕ). subst (λ x. IsSettled x place) (sym grew) (settled_push h a was refl place) in
-    (desk_of r2 (Some s) s refl sound open_for settled (room_left r1 r2 a room first), (a ∷ [], grew, refl))
+    (desk_of r2 (Some s) s refl sound open_for settled (subst SyncsAreOwed (sym grew) (owed_push h a owed (λ e. cc e))) (room_left r1 r2 a room first), (a ∷ [], grew, refl))
 
-pub closed_desk : (h : List Entry) (r1 r2 : Recorded) (s : ℕ) → r1.seen ≡ h → r2 ≡ pushed r1 s Close reply.Done → ((place : ℕ) → IsSettled h place) → IsSound r2.seen
+pub closed_desk : (h : List Entry) (r1 r2 : Recorded) (s : ℕ) → r1.seen ≡ h → r2 ≡ pushed r1 s Close reply.Done → ((place : ℕ) → IsSettled h place) → SyncsAreOwed h → IsSound r2.seen
     → IsDesk r2 None × Grows h r2.seen (λ grown. IsClosed 0 s grown)
-closed_desk h r1 r2 s same first was sound =
+closed_desk h r1 r2 s same first was owed sound =
     let a = entry s Close reply.Done in
     let grew : r2.seen ≡ h ++ a ∷ [] = ap (λ (x : Recorded). x.seen) first ∙ ap (λ x. x ++ a ∷ []) same in (
       record {
         in_order = record { legal = sound.legal; one_table = sound.one_table; is_open = λ k is. absurd (none_some k is) };
         sound = sound;
         settled = λ place. subst (λ x. IsSettled x place) (sym grew) (settled_push h a was refl place);
+        owed = subst SyncsAreOwed (sym grew) (owed_push h a owed (λ e. cc e));
         room = λ k is. absurd (none_some k is);
       },
       (a ∷ [], grew, refl),

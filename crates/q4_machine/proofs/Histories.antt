@@ -1,5 +1,5 @@
 -- Histories that grow by an entry: what they reach, that they stay legal, and what is settled.
-use Rattle.std.proofs.Common.{◌≡◌, ◌≢◌, ◌==◌, ◌&&◌, ◌<◌, ◌≤◌, ◌+◌, ◌^◌, ◌++◌, ◌∷◌, ◌∙◌, ◌⊎◌, [], List, ℕ, Bool, true, false, cond, not, Option, Some, None, All, Any, fold, map, filter, length, drop, refl, sym, ap, subst, arith, inl, inr, append_assoc, append-nil}
+use Rattle.std.proofs.Common.{◌≡◌, ◌≢◌, ◌==◌, ◌&&◌, ◌<◌, ◌≤◌, ◌+◌, ◌^◌, ◌++◌, ◌∷◌, ◌∙◌, ◌⊎◌, [], List, ℕ, zero, suc, Bool, true, false, cond, not, Option, Some, None, All, Any, fold, map, filter, length, drop, refl, sym, ap, subst, arith, inl, inr, append_assoc, append-nil}
 use Rattle.std.proofs.lemmas.List.{length-append, length-map}
 use Rattle.std.proofs.Math.ListN.{get_or-append}
 use Rattle.std.proofs.lemmas.Bool.{true≢false, and_from, eq-eqb}
@@ -16,7 +16,7 @@ use Rattle.q4_machine.specs.declared.session.OpenSession.{OpenSession}
 use Rattle.q4_machine.specs.Machine.{MachineState, mode_of, in_mode, with_mode, without_session}
 use Rattle.q4_machine.specs.Pick.{Picked, pick}
 use Rattle.q4_machine.specs.Step.{step, looked, ended, closed}
-use Rattle.q4_machine.specs.History.{nothing, advance, state_after, is_open, opener, IsNext, IsOpening, is_change, IsSettled, history_limit, IsLegal}
+use Rattle.q4_machine.specs.History.{nothing, advance, state_after, is_open, opener, IsNext, IsOpening, is_change, IsSettled, SyncsAreOwed, history_limit, IsLegal}
 
 pub cons_head : {X : Type 0} {x y : X} {xs ys : List X} → x ∷ xs ≡ y ∷ ys → x ≡ y
 cons_head {X = X} {x = x} is = ap (λ l. first_or l) is where
@@ -137,6 +137,36 @@ settled_by_sync history e sync place before x later is within change = elim (spl
   | inr cut ↦ subst (Any (λ (y : Entry). y.call ≡ Sync)) (sym cut.2) (Any-push (λ (y : Entry). y.call ≡ Sync) cut.0 e sync)
 ]
 
+any_none : {X : Type 0} (P : X → Type 0) → Any P [] → ⊥
+any_none P some = omega (arith, some.2)
+
+-- a change at the end is not settled
+pub unsettled_push : (history : List Entry) (e : Entry) → is_change (state_after history) e.call e.session e.reply ≡ true → IsSettled (history ++ e ∷ []) (length (history ++ e ∷ [])) → ⊥
+unsettled_push history e change settled =
+    let size = length-append history (e ∷ []) in
+    any_none (λ (x : Entry). x.call ≡ Sync) (settled history e [] refl (omega (arith, size)) change)
+
+any_single : (e : Entry) → (e.call ≡ Sync → ⊥) → Any (λ (x : Entry). x.call ≡ Sync) (e ∷ []) → ⊥
+any_single e other (zero, x, inside, is, sync) = other (ap (λ (y : Entry). y.call) is ∙ sync)
+any_single e other (suc k, x, inside, is, sync) = omega (arith, inside)
+
+-- nor with one more entry that is no sync
+pub unsettled_more : (history : List Entry) (e next : Entry) → is_change (state_after history) e.call e.session e.reply ≡ true → (next.call ≡ Sync → ⊥)
+    → IsSettled ((history ++ e ∷ []) ++ next ∷ []) (length ((history ++ e ∷ []) ++ next ∷ [])) → ⊥
+unsettled_more history e next change other settled =
+    let size2 = length-append (history ++ e ∷ []) (next ∷ []) in
+    let size1 = length-append history (e ∷ []) in
+    any_single next other (settled history e (next ∷ []) (append_assoc history (e ∷ []) (next ∷ [])) (omega (arith, size1, size2)) change)
+
+-- one more entry, which is no sync or an owed one
+pub owed_push : (history : List Entry) (e : Entry) → SyncsAreOwed history → (e.call ≡ Sync → IsSettled history (length history) → ⊥) → SyncsAreOwed (history ++ e ∷ [])
+owed_push history e owed last before x later is sync settled = elim (split_push history e before x later is) [
+  inl same ↦
+    let here : IsSettled history (length history) = subst (λ h. IsSettled h (length h)) same.0 settled in
+    last (ap (λ (y : Entry). y.call) (sym same.1) ∙ sync) here
+  | inr cut ↦ owed before x cut.0 cut.1 sync settled
+]
+
 -- ## Who opened a session
 
 opener_step : (b : Bool) (k caller : ℕ) (old new : Option ℕ) → cond b (Some k) old ≡ Some caller → (old ≡ Some caller → new ≡ Some caller) → cond b (Some k) new ≡ Some caller
@@ -149,8 +179,8 @@ opener_more [] more s caller is = cc is
 opener_more (e ∷ es) more s caller is = opener_step (is_open e.call && e.session == s) e.caller caller (opener es s) (opener (es ++ more) s) is (opener_more es more s caller)
 
 either_zero : (b : Bool) (k : ℕ) (o : Option ℕ) → k ≡ 0 → o ≡ Some 0 → cond b (Some k) o ≡ Some 0
-either_zero true k o zero later = ap Some zero
-either_zero false k o zero later = later
+either_zero true k o is_zero later = ap Some is_zero
+either_zero false k o is_zero later = later
 
 -- a session that is opened now, in a history of caller 0
 pub opener_now : (history : List Entry) (s : ℕ) (e : Entry) → All (λ (x : Entry). x.caller ≡ 0) history → e.caller ≡ 0 → is_open e.call ≡ true → e.session ≡ s → opener (history ++ e ∷ []) s ≡ Some 0

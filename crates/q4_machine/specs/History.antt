@@ -97,6 +97,10 @@ abbrev pub IsSettled : List Entry → ℕ → Type 0
 IsSettled history place = (before : List Entry) (e : Entry) (later : List Entry) → history ≡ before ++ e ∷ later → length before ≤ place
     → is_change (state_after before) e.call e.session e.reply ≡ true → Any (λ x. x.call ≡ Sync) later
 
+-- A sync stands only where a change before it has none after it.
+abbrev pub SyncsAreOwed : List Entry → Type 0
+SyncsAreOwed history = (before : List Entry) (e : Entry) (later : List Entry) → history ≡ before ++ e ∷ later → e.call ≡ Sync → IsSettled before (length before) → ⊥
+
 -- what a history may come to: entries, open sessions, and one sync where a change has none after it
 abbrev pub history_limit : ℕ
 history_limit = 2 ^ 62

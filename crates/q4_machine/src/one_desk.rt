@@ -1,5 +1,5 @@
 ghost use Rattle.std.specs.Prelude.{◌≡◌, ℕ, List, Option, Some, None, IfOk};
-ghost use Rattle.q4_machine.specs.History.{IsSettled};
+ghost use Rattle.q4_machine.specs.History.{IsSettled, SyncsAreOwed};
 ghost use Rattle.q4_machine.specs.Recorded.{IsSound};
 ghost use Rattle.q4_machine.specs.OneDesk.{IsNew};
 
@@ -48,6 +48,7 @@ impl OneDesk {
         // It is legal, and all of it is by caller 0.
         ensures sound { IsSound result.now }
         ensures settled { (place : ℕ) → IsSettled result.now place }
+        ensures owed { SyncsAreOwed result.now }
     {
         self.recorded.history()
     }

@@ -13,10 +13,10 @@ use Rattle.q4_machine.proofs.one_desk.OneDeskDesk.close.Goals as goal
 
 pub invariant_of-self : goal.invariant_of-self
 invariant_of-self c =
-    let closed = closed_desk c.self.inside.recorded.seen c.self.inside.recorded c.close.new.self c.in-Some.session refl c.close.ensures.closed c.self.invariant.settled c.close.ensures.sound in
+    let closed = closed_desk c.self.inside.recorded.seen c.self.inside.recorded c.close.new.self c.in-Some.session refl c.close.ensures.closed c.self.invariant.settled c.self.invariant.owed c.close.ensures.sound in
     closed.0
 
 pub returns-in-Some-clause-entry : goal.returns-in-Some-clause-entry
 returns-in-Some-clause-entry c =
-    let closed = closed_desk c.self.inside.recorded.seen c.self.inside.recorded c.close.new.self c.in-Some.session refl c.close.ensures.closed c.self.invariant.settled c.close.ensures.sound in
+    let closed = closed_desk c.self.inside.recorded.seen c.self.inside.recorded c.close.new.self c.in-Some.session refl c.close.ensures.closed c.self.invariant.settled c.self.invariant.owed c.close.ensures.sound in
     closed_for c.args.self.now c.self.inside.recorded.seen c.self.inside.current c.in-Some.session c.close.new.self.seen c.self.view_is c.in-Some.is closed.1

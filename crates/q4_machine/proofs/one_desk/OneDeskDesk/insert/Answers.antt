@@ -8,7 +8,7 @@ use Rattle.q4_machine.specs.Parts.{Replied, insert_answer}
 use Rattle.q4_machine.specs.Step.{look_reply, added_reply, end_reply}
 use Rattle.q4_machine.specs.Recorded.{Recorded}
 use Rattle.q4_machine.specs.OneDesk.{IsDesk}
-use Rattle.q4_machine.proofs.Desks.{desk_reserved, inserted, part_for, part_as, insert_replied}
+use Rattle.q4_machine.proofs.Desks.{desk_reserved, inserted, part_for, part_as, insert_replied, added_changes}
 use Rattle.q4_machine.proofs.one_desk.OneDeskDesk.insert.Goals as goal
 
 pub invariant_of-self : goal.invariant_of-self
@@ -17,7 +17,7 @@ invariant_of-self c =
 
 pub invariant_of-self-in-Ok-insert : goal.invariant_of-self-in-Ok-insert
 invariant_of-self-in-Ok-insert c =
-    let called = inserted c.self.inside.recorded.seen c.reserve.new.self c.insert.new.self c.sync.new.self c.self.inside.current c.in-Some.session c.args.table c.args.row (added_reply c.in-Ok-insert.added) c.in-Some.is c.reserve.ensures.seen c.in_default-reserve.ensures.room c.in-Ok-insert.ensures.added c.sync.ensures.synced c.sync.ensures.sound c.sync.ensures.is_open in
+    let called = inserted c.self.inside.recorded.seen c.reserve.new.self c.insert.new.self c.sync.new.self c.self.inside.current c.in-Some.session c.args.table c.args.row (added_reply c.in-Ok-insert.added) c.in-Some.is c.reserve.ensures.seen c.in_default-reserve.ensures.room c.in-Ok-insert.ensures.added c.sync.ensures.synced c.self.invariant.owed (added_changes c.in-Ok-insert.added) c.sync.ensures.sound c.sync.ensures.is_open in
     called.desk
 
 pub invariant_of-self-in-Err-insert : goal.invariant_of-self-in-Err-insert
@@ -27,5 +27,5 @@ invariant_of-self-in-Err-insert c =
 
 pub returns-in-Ok-insert-clause-part : goal.returns-in-Ok-insert-clause-part
 returns-in-Ok-insert-clause-part c =
-    let called = inserted c.self.inside.recorded.seen c.reserve.new.self c.insert.new.self c.sync.new.self c.self.inside.current c.in-Some.session c.args.table c.args.row (added_reply c.in-Ok-insert.added) c.in-Some.is c.reserve.ensures.seen c.in_default-reserve.ensures.room c.in-Ok-insert.ensures.added c.sync.ensures.synced c.sync.ensures.sound c.sync.ensures.is_open in
+    let called = inserted c.self.inside.recorded.seen c.reserve.new.self c.insert.new.self c.sync.new.self c.self.inside.current c.in-Some.session c.args.table c.args.row (added_reply c.in-Ok-insert.added) c.in-Some.is c.reserve.ensures.seen c.in_default-reserve.ensures.room c.in-Ok-insert.ensures.added c.sync.ensures.synced c.self.invariant.owed (added_changes c.in-Ok-insert.added) c.sync.ensures.sound c.sync.ensures.is_open in
     part_for c.args.self.now c.self.inside.recorded.seen c.self.inside.current c.in-Some.session c.sync.new.self.seen (call.Insert c.args.table c.args.row) (insert_answer (Ok c.in-Ok-insert.added)) c.self.view_is c.in-Some.is (part_as c.self.inside.recorded.seen c.sync.new.self.seen c.in-Some.session (call.Insert c.args.table c.args.row) (call.Insert c.args.table c.args.row) (Replied (added_reply c.in-Ok-insert.added)) (insert_answer (Ok c.in-Ok-insert.added)) refl (insert_replied c.in-Ok-insert.added) called.part)

@@ -22,10 +22,10 @@ invariant_of-self-in_err-session c =
 
 pub invariant_of-self-2 : goal.invariant_of-self-2
 invariant_of-self-2 c =
-    let opened = opened_desk c.self.inside.recorded.seen c.reserve.new.self c.open.new.self c.in_ok-session.session c.reserve.ensures.seen c.in_ok-reserve.ensures.room c.in_ok-session.ensures.opened c.self.invariant.settled c.open.ensures.sound c.in_ok-session.ensures.is_open in
+    let opened = opened_desk c.self.inside.recorded.seen c.reserve.new.self c.open.new.self c.in_ok-session.session c.reserve.ensures.seen c.in_ok-reserve.ensures.room c.in_ok-session.ensures.opened c.self.invariant.settled c.self.invariant.owed c.open.ensures.sound c.in_ok-session.ensures.is_open in
     opened.0
 
 pub returns-clause-entry : goal.returns-clause-entry
 returns-clause-entry c =
-    let opened = opened_desk c.self.inside.recorded.seen c.reserve.new.self c.open.new.self c.in_ok-session.session c.reserve.ensures.seen c.in_ok-reserve.ensures.room c.in_ok-session.ensures.opened c.self.invariant.settled c.open.ensures.sound c.in_ok-session.ensures.is_open in
+    let opened = opened_desk c.self.inside.recorded.seen c.reserve.new.self c.open.new.self c.in_ok-session.session c.reserve.ensures.seen c.in_ok-reserve.ensures.room c.in_ok-session.ensures.opened c.self.invariant.settled c.self.invariant.owed c.open.ensures.sound c.in_ok-session.ensures.is_open in
     subst (λ (d : DeskState). Grows d.seen c.open.new.self.seen (λ grown. IsOpened 0 grown (Ok c.in_ok-session.session))) c.self.view_is opened.1
