@@ -1,4 +1,5 @@
-ghost use Rattle.q4_proto.specs.Text.{IsOutcome};
+ghost use Rattle.q4_proto.specs.declared.reply.Outcome.TheVariants as outcome;
+ghost use Rattle.q4_proto.specs.Text.{code, IsOutcome};
 
 use super::*;
 use q4_flow::{MemorySink, WriteFailed};
@@ -6,14 +7,6 @@ use q4_value::{Row, Value};
 use std::alloc::Global;
 use std::process::Abort;
 use std::test::*;
-
-fn refused(number: u16) -> Outcome {
-    Outcome::Refused(Code {
-        number,
-        first: None,
-        second: None,
-    })
-}
 
 // A reply is one write: the second write of the sink fails, and nothing of it is there.
 fn check_reply(rt: &impl Abort, alloc: Global, outcome: &Outcome, wanted: &[u8])
@@ -23,6 +16,17 @@ fn check_reply(rt: &impl Abort, alloc: Global, outcome: &Outcome, wanted: &[u8])
     assert_eq!(rt; put_reply(outcome, &mut sink), Ok(()));
     assert_eq!(rt; put_reply(outcome, &mut sink), Err(WriteFailed));
     assert_eq!(rt; sink.bytes(), wanted);
+}
+
+fn check_refusal(rt: &impl Abort, alloc: Global, number: u16, wanted: &[u8])
+    requires { IsOutcome (outcome.Refused (code number)) }
+{
+    let refused = Outcome::Refused(Code {
+        number,
+        first: None,
+        second: None,
+    });
+    check_reply(rt, alloc, &refused, wanted);
 }
 
 #[test]
@@ -40,17 +44,13 @@ fn replies(rt: HostRuntime) {
 
 #[test]
 fn refusals(rt: HostRuntime) {
-    check_reply(&rt, rt.alloc(), &refused(11), b"err\t11\tunknown command\n");
-    check_reply(&rt, rt.alloc(), &refused(19), b"err\t19\tnot built\n");
-    check_reply(
-        &rt,
-        rt.alloc(),
-        &refused(31),
-        b"err\t31\tnot in owner mode\n",
-    );
-    check_reply(&rt, rt.alloc(), &refused(60), b"err\t60\tline too long\n");
-    check_reply(&rt, rt.alloc(), &refused(61), b"err\t61\tpartial line\n");
-    check_reply(&rt, rt.alloc(), &refused(90), b"err\t90\tout of memory\n");
+    let alloc = rt.alloc();
+    check_refusal(&rt, alloc, 11, b"err\t11\tunknown command\n");
+    check_refusal(&rt, alloc, 19, b"err\t19\tnot built\n");
+    check_refusal(&rt, alloc, 31, b"err\t31\tnot in owner mode\n");
+    check_refusal(&rt, alloc, 60, b"err\t60\tline too long\n");
+    check_refusal(&rt, alloc, 61, b"err\t61\tpartial line\n");
+    check_refusal(&rt, alloc, 90, b"err\t90\tout of memory\n");
 }
 
 // What a line is read as.
