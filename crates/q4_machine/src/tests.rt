@@ -1,9 +1,9 @@
-ghost use Rattle.std.specs.Prelude.{◌≡◌, [], ◌∷◌, None, IsSome};
+ghost use Rattle.std.specs.Prelude.{◌≡◌, [], ◌∷◌, None};
 ghost use Rattle.q4_machine.specs.Fits.{RowFits};
 
 use crate::recorded::RecordedMachine;
 use crate::*;
-use q4_value::{NoMemory, Row, Value, Words};
+use q4_value::{Row, Value, Words};
 use std::alloc::Global;
 use std::process::Abort;
 use std::test::*;
