@@ -12,3 +12,6 @@ pub use memory::{MemorySink, MemorySource};
 pub use sink::{Sink, WriteFailed};
 pub use source::{ReadFailed, Source};
 pub use standard::{StdSink, StdSource};
+
+#[cfg(test)]
+mod tests;

@@ -17,3 +17,6 @@ pub use machine::Machine;
 pub use one_desk::OneDesk;
 pub use session::{OpenSession, SessionMode};
 pub use table::{Added, StoredRow, Table};
+
+#[cfg(test)]
+mod tests;

@@ -7,3 +7,6 @@ mod reply;
 
 pub use command::{Command, CommandFault, read_command};
 pub use reply::{Code, Outcome, put_reply};
+
+#[cfg(test)]
+mod tests;

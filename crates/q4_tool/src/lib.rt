@@ -6,3 +6,6 @@ mod sessions;
 
 pub use program::tool;
 pub use sessions::{SessionEnd, session};
+
+#[cfg(test)]
+mod tests;
