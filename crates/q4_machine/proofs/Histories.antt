@@ -161,9 +161,9 @@ unsettled_more history e next change other settled =
 -- one more entry, which is no sync or an owed one
 pub owed_push : (history : List Entry) (e : Entry) → SyncsAreOwed history → (e.call ≡ Sync → IsSettled history (length history) → ⊥) → SyncsAreOwed (history ++ e ∷ [])
 owed_push history e owed last before x later is sync settled = elim (split_push history e before x later is) [
-  inl same ↦
-    let here : IsSettled history (length history) = subst (λ h. IsSettled h (length h)) same.0 settled in
-    last (ap (λ (y : Entry). y.call) (sym same.1) ∙ sync) here
+  | inl same ↦
+      let here : IsSettled history (length history) = subst (λ h. IsSettled h (length h)) same.0 settled in
+      last (ap (λ (y : Entry). y.call) (sym same.1) ∙ sync) here
   | inr cut ↦ owed before x cut.0 cut.1 sync settled
 ]
 

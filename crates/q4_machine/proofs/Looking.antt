@@ -56,7 +56,7 @@ valid_looked m s list (Some p) is valid was places = valid_found m s list p vali
 pub valid_step : (m : MachineState) (session : ℕ) (call : Call) → IsValid m → MayStep m session call → IsValid (step m session call).0
 valid_step m session (Opened tables) valid may = absurd may
 valid_step m session Open valid may = valid_opened m session valid
-valid_step m session (Insert place row) valid may = valid_added m session place row valid may.1 may.2
+valid_step m session (Insert place row) valid may = valid_added m session place row valid may.1 may.2 may.3
 valid_step m session (Look list) valid may = valid_looked m session list (pick m list) refl valid may.0 may.1
 valid_step m session End valid may = valid_ended m session (mode_of m session) refl valid
 valid_step m session Close valid may = valid_closed m session (mode_of m session) refl valid

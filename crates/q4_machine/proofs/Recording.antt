@@ -17,7 +17,7 @@ use Rattle.q4_machine.specs.declared.session.SessionMode.{SessionMode}
 use Rattle.q4_machine.specs.declared.session.SessionMode.TheVariants.{NonOwner, Empty, Owner}
 use Rattle.q4_machine.specs.Machine.{MachineState, mode_of, table_at, with_owner, without_row}
 use Rattle.q4_machine.specs.Pick.{Picked, pick}
-use Rattle.q4_machine.specs.Step.{step, MayStep, looked, ended, closed, add_row}
+use Rattle.q4_machine.specs.Step.{step, MayStep, looked, ended, closed, add_row, number_limit}
 use Rattle.q4_machine.specs.History.{state_after, advance, is_open, opener, IsOpenFor, IsNext, IsLegal}
 use Rattle.q4_machine.specs.Recorded.{entry, IsSound, IsRecorded}
 use Rattle.q4_machine.proofs.Validity.{none_some, mode_given}
@@ -110,11 +110,12 @@ go_on m m' history s call reply recorded steps may was there few = record {
   is_open = open_after history s call reply was there;
 }
 
-pub insert_goes : (m m' : MachineState) (history : List Entry) (s t : ℕ) (row : List Value) (reply : Reply) → IsRecorded m history → step m s (Insert t row) ≡ (m', reply) → t < 1 → RowFits row
+pub insert_goes : (m m' : MachineState) (history : List Entry) (s t : ℕ) (row : List Value) (reply : Reply) → IsRecorded m history → step m s (Insert t row) ≡ (m', reply) → t < 1 → RowFits row → (table_at m.tables t).next < number_limit
     → IsOpenFor history 0 s → length history + 1 < 2 ^ 61 → Goes m' (history ++ entry s (Insert t row) reply ∷ []) s
-insert_goes m m' history s t row reply recorded steps place fits was few =
+insert_goes m m' history s t row reply recorded steps place fits left was few =
     let one = recorded.sound.one_table in
-    go_on m m' history s (Insert t row) reply recorded steps (was.is_open, omega (arith, one, place), fits) was was.is_open few
+    let left' = subst (λ (x : MachineState). (table_at x.tables t).next < number_limit) recorded.reached left in
+    go_on m m' history s (Insert t row) reply recorded steps (was.is_open, omega (arith, one, place), fits, left') was was.is_open few
 
 pub look_goes : (m m' : MachineState) (history : List Entry) (s : ℕ) (list : List ℕ) (reply : Reply) → IsRecorded m history → step m s (Look list) ≡ (m', reply)
     → mode_of (state_after history) s ≡ Some NonOwner → All (λ place. place < 1) list → IsOpenFor history 0 s → length history + 1 < 2 ^ 61 → Goes m' (history ++ entry s (Look list) reply ∷ []) s

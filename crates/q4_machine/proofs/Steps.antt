@@ -16,7 +16,7 @@ use Rattle.q4_machine.specs.declared.entry.Call.TheVariants.{Opened, Open, Inser
 use Rattle.q4_machine.specs.TableState.{TableState}
 use Rattle.q4_machine.specs.Machine.{MachineState, no_table, table_at, mode_of, owner_at, session_in, row_in, in_mode, with_mode, without_session, owned_by, with_owner, without_row}
 use Rattle.q4_machine.specs.Fits.{RowFits}
-use Rattle.q4_machine.specs.Step.{with_table, with_rows, with_session, with_none, add_row, step, MayStep, looked, ended, closed}
+use Rattle.q4_machine.specs.Step.{with_table, with_rows, with_session, with_none, add_row, number_limit, step, MayStep, looked, ended, closed}
 use Rattle.q4_machine.specs.Valid.{RiseBelow, IsValidTable, IsValid}
 use Rattle.q4_machine.proofs.Lookup.{found, found_key, found_others, found_gone, found_before, found_last}
 use Rattle.q4_machine.proofs.Rising.{rise-push, rise-filter, none_next, map_keeps}
@@ -30,6 +30,7 @@ fits_owned number owner r fits = elim (r.number == number) as (λ b. RowFits (co
 pub table-with_owner : (number : ℕ) (owner : Option ℕ) (table : TableState) → IsValidTable table → IsValidTable (record table { rows = with_owner number owner table.rows })
 table-with_owner number owner table valid = record {
   begins = valid.begins;
+  limit = valid.limit;
   numbers = subst (RiseBelow 0 table.next) (sym (map_keeps (λ (r : StoredRow). r.number) (owned_by number owner) (keeps_number number owner) table.rows)) valid.numbers;
   fit = All-map (λ (r : StoredRow). RowFits r.row) (owned_by number owner) table.rows (λ k d inside. fits_owned number owner (get_or table.rows k d) (valid.fit k d inside));
 }
@@ -37,6 +38,7 @@ table-with_owner number owner table valid = record {
 pub table-without_row : (number : ℕ) (table : TableState) → IsValidTable table → IsValidTable (record table { rows = without_row number table.rows })
 table-without_row number table valid = record {
   begins = valid.begins;
+  limit = valid.limit;
   numbers = rise-filter (λ (r : StoredRow). r.number) (λ (r : StoredRow). not (r.number == number)) 0 table.next table.rows valid.numbers;
   fit = All-filter (λ (r : StoredRow). not (r.number == number)) (λ (r : StoredRow). RowFits r.row) table.rows valid.fit;
 }
@@ -44,10 +46,11 @@ table-without_row number table valid = record {
 new_row : TableState → List Value → StoredRow
 new_row table row = record { number = table.next; row = row; owner = None }
 
-pub table-add_row : (table : TableState) (row : List Value) → RowFits row → IsValidTable table → IsValidTable (add_row table row)
+pub table-add_row : (table : TableState) (row : List Value) → RowFits row → table.next < number_limit → IsValidTable table → IsValidTable (add_row table row)
 unfolding new_row
-table-add_row table row fits valid = record {
+table-add_row table row fits left valid = record {
   begins = omega arith;
+  limit = omega (arith, left);
   numbers = subst (RiseBelow 0 (table.next + 1)) (sym (map-append (λ (r : StoredRow). r.number) table.rows (new_row table row ∷ []))) (rise-push 0 table.next (map (λ (r : StoredRow). r.number) table.rows) valid.begins valid.numbers);
   fit = All-push (λ (r : StoredRow). RowFits r.row) table.rows (new_row table row) valid.fit fits;
 }
@@ -234,9 +237,9 @@ valid_opened m session valid =
     }
 
 -- a new row
-pub valid_added : (m : MachineState) (session t : ℕ) (row : List Value) → IsValid m → t < length m.tables → RowFits row → IsValid (step m session (Insert t row)).0
+pub valid_added : (m : MachineState) (session t : ℕ) (row : List Value) → IsValid m → t < length m.tables → RowFits row → (table_at m.tables t).next < number_limit → IsValid (step m session (Insert t row)).0
 unfolding new_row
-valid_added m session t row valid inside fits =
+valid_added m session t row valid inside fits left =
     let table = table_at m.tables t in
     let was = All-get_or IsValidTable m.tables t no_table inside valid.tables in
     let more = add_row table row in
@@ -252,7 +255,7 @@ valid_added m session t row valid inside fits =
       | inr apart ↦ owner_apart m t more q k apart
     ] in
     record {
-      tables = All-set IsValidTable m.tables t more (table-add_row table row fits was) valid.tables;
+      tables = All-set IsValidTable m.tables t more (table-add_row table row fits left was) valid.tables;
       begins = valid.begins;
       sessions = valid.sessions;
       owns = λ s q k is. same q k ∙ valid.owns s q k is;

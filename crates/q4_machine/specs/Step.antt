@@ -1,5 +1,5 @@
 -- What each call does to the machine, and what it is answered.
-use Rattle.std.specs.Prelude.{◌≡◌, ◌≢◌, ◌<◌, ◌+◌, ℕ, List, [], ◌∷◌, ◌++◌, Option, None, Some, Result, Ok, Err, All, length, slice_set}
+use Rattle.std.specs.Prelude.{◌≡◌, ◌≢◌, ◌<◌, ◌+◌, ◌^◌, ℕ, List, [], ◌∷◌, ◌++◌, Option, None, Some, Result, Ok, Err, All, length, slice_set}
 use Rattle.q4_value.specs.declared.row.Value.{Value}
 use Rattle.q4_machine.specs.declared.table.StoredRow.{StoredRow}
 use Rattle.q4_machine.specs.declared.session.SessionMode.{SessionMode}
@@ -68,11 +68,15 @@ step m session End = ended m session (mode_of m session)
 step m session Close = closed m session (mode_of m session)
 step m session Sync = (m, Done)
 
--- What a call needs of the machine.
+-- row numbers stay below this one
+abbrev pub number_limit : ℕ
+number_limit = 2 ^ 62
+
+-- What a call needs of the machine. An insert needs a number that is left.
 abbrev pub MayStep : MachineState → ℕ → Call → Type 0
 MayStep m session (Opened tables) = ⊥
 MayStep m session Open = session ≡ m.next_session
-MayStep m session (Insert place row) = IsSessionOpen m session × (place < length m.tables) × RowFits row
+MayStep m session (Insert place row) = IsSessionOpen m session × (place < length m.tables) × RowFits row × ((table_at m.tables place).next < number_limit)
 MayStep m session (Look list) = (mode_of m session ≡ Some NonOwner) × All (λ place. place < length m.tables) list
 MayStep m session End = IsSessionOpen m session
 MayStep m session Close = IsSessionOpen m session

@@ -1,5 +1,5 @@
 -- Which machines are valid: numbers rise, rows fit, modes and owners agree.
-use Rattle.std.specs.Prelude.{◌≡◌, ◌<◌, ℕ, List, [], ◌∷◌, Some, All, map}
+use Rattle.std.specs.Prelude.{◌≡◌, ◌<◌, ◌≤◌, ◌^◌, ℕ, List, [], ◌∷◌, Some, All, map}
 use Rattle.q4_machine.specs.declared.session.SessionMode.TheVariants.{Owner}
 use Rattle.q4_machine.specs.TableState.{TableState}
 use Rattle.q4_machine.specs.Fits.{RowFits}
@@ -12,6 +12,7 @@ RiseBelow low next (n ∷ ns) = (low < n) × (n < next) × RiseBelow n next ns
 
 pub record IsValidTable (table : TableState) : Type 0 where
   pub begins : 0 < table.next
+  pub limit : table.next ≤ 2 ^ 62
   pub numbers : RiseBelow 0 table.next (map (λ r. r.number) table.rows)
   pub fit : All (λ r. RowFits r.row) table.rows
 

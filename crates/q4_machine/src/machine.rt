@@ -1,11 +1,11 @@
-ghost use Rattle.std.specs.Prelude.{◌≡◌, ◌<◌, ◌^◌, [], Some, None, All, length, IfOk, IfErr, OnErr};
+ghost use Rattle.std.specs.Prelude.{◌≡◌, ◌<◌, ◌^◌, [], Some, None, All, length, IfOk, IfErr, OnOk, OnErr};
 ghost use Rattle.std.specs.Option.{option_map};
 ghost use Rattle.q4_machine.specs.declared.entry.Call.TheVariants as call;
 ghost use Rattle.q4_machine.specs.declared.entry.Reply.TheVariants as reply;
-ghost use Rattle.q4_machine.specs.Machine.{mode_of, in_mode, with_mode, without_session, session_in, IsSessionOpen};
+ghost use Rattle.q4_machine.specs.Machine.{mode_of, in_mode, with_mode, without_session, session_in, table_at, IsSessionOpen};
 ghost use Rattle.q4_machine.specs.Pick.{pick_from};
 ghost use Rattle.q4_machine.specs.Fits.{RowFits};
-ghost use Rattle.q4_machine.specs.Step.{step, look_reply, end_reply, added_reply, owned_row};
+ghost use Rattle.q4_machine.specs.Step.{step, look_reply, end_reply, added_reply, owned_row, number_limit};
 ghost use Rattle.q4_machine.specs.Valid.{IsValidTable};
 ghost use Rattle.q4_machine.specs.Found.{picked_of};
 
@@ -94,6 +94,7 @@ impl Machine {
         requires place { table < length self.old.tables }
         requires fits { RowFits row }
         ensures added { IfOk result (λ added. step self.old session (call.Insert table row) ≡ (self.new, added_reply added)) }
+        ensures left { OnOk result ((table_at self.old.tables table).next < number_limit) }
         ensures kept { OnErr result (self.new ≡ self.old) }
     {
         let table = &mut self.tables[table as usize];

@@ -1,8 +1,8 @@
-ghost use Rattle.std.specs.Prelude.{◌≡◌, [], None, Some, IfOk, OnErr, find, is_none};
+ghost use Rattle.std.specs.Prelude.{◌≡◌, ◌<◌, [], None, Some, IfOk, OnOk, OnErr, find, is_none};
 ghost use Rattle.std.specs.Option.{option_map};
 ghost use Rattle.q4_machine.specs.Machine.{with_owner, without_row, owned_by};
 ghost use Rattle.q4_machine.specs.Pick.{oldest_number};
-ghost use Rattle.q4_machine.specs.Step.{add_row};
+ghost use Rattle.q4_machine.specs.Step.{add_row, number_limit};
 
 use q4_value::{NoMemory, Row};
 use std::alloc::Global;
@@ -59,6 +59,7 @@ impl Table {
     /// Adds a row behind the others, unowned. It also wants memory where the numbers are used up.
     pub fn add(&mut self, row: Row) -> Result<Added, NoMemory>
         ensures added { IfOk result (λ added. (self.new ≡ add_row self.old row) × (added ≡ Added.New self.old.next)) }
+        ensures left { OnOk result (self.old.next < number_limit) }
         ensures kept { OnErr result (self.new ≡ self.old) }
     {
         if self.next >= NUMBER_LIMIT {

@@ -3,7 +3,7 @@ use Rattle.std.specs.Prelude.{◌≡◌, ◌++◌, ◌∷◌, ◌⊎◌, [], ℕ
 use Rattle.std.specs.declared.alloc.Global.{Global}
 use Rattle.q4_flow.specs.Flow.{Took, TookFront}
 use Rattle.q4_machine.specs.declared.entry.Entry.{Entry}
-use Rattle.q4_machine.specs.History.{IsLegal}
+use Rattle.q4_machine.specs.History.{IsLegal, IsSettled, SyncsAreOwed}
 use Rattle.q4_machine.specs.Recorded.{opened_built_in}
 use Rattle.q4_tool.specs.declared.sessions.SessionEnd.{SessionEnd}
 use Rattle.q4_tool.specs.declared.sessions.SessionEnd.TheVariants as end
@@ -20,11 +20,13 @@ status_of end.WriteFault = 7
 status_of end.Memory = 9
 
 -- One session ran from the input to the output, over the one history of a desk that begins with the empty built-in
--- table. All of it is the tool's own, by caller 0.
+-- table. All of it is the tool's own, by caller 0, and settled by syncs that were owed.
 pub record Ran (left left' : Option (List ℕ)) (ended : Type 0) (written written' : Option (List ℕ)) (status : ℕ) : Type 0 where
   pub history : List Entry
   pub legal : IsLegal history
   pub by_zero : All (λ e. e.caller ≡ 0) history
+  pub settled : (place : ℕ) → IsSettled history place
+  pub owed : SyncsAreOwed history
   pub how : SessionEnd
   pub session : Session 0 (opened_built_in ∷ []) history left left' ended written written' how
   pub status_is : status ≡ status_of how
