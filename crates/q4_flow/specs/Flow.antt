@@ -1,5 +1,5 @@
 -- What a source has left and what a sink was given, where these are told, and counts of faults.
-use Rattle.std.specs.Prelude.{◌≡◌, ◌≤◌, ◌<◌, ◌+◌, ◌-◌, ◌^◌, ◌++◌, ◌⊎◌, ℕ, List, [], Option, Result, min, Bool, IsTrue, IsSome, IfSome, OnOk, OnErr, IfOk}
+use Rattle.std.specs.Prelude.{◌≡◌, ◌≤◌, ◌<◌, ◌+◌, ◌-◌, ◌^◌, ◌++◌, ◌⊎◌, ℕ, List, [], Option, Result, min, Bool, IsTrue, IsSome, IfSome, OnOk, OnErr, IfOk, Ok}
 use Rattle.std.specs.Io.KnownBytes.{prepend_known, append_known}
 
 -- The count is greater than before, or stands at its type's end.
@@ -35,8 +35,9 @@ pub record TookFront (old new : Option (List ℕ)) (bytes : List ℕ) : Type 0 w
 abbrev pub NothingLeft : Option (List ℕ) → Type 0
 NothingLeft left = IfSome left (λ bytes. bytes ≡ [])
 
--- A read with room that answered 0 is the end of the input, and later reads answer 0 too.
+-- A read with room that answered 0 tells the end of the input, and nothing else does. A later read that succeeds
+-- answers 0 too.
 pub record EndsOnce {E : Type 0} (before now : Bool) (room : ℕ) (left : Option (List ℕ)) (result : Result ℕ E) : Type 0 where
   pub at_end : IfOk result (λ count. count ≡ 0 → 0 < room → IsTrue now × NothingLeft left)
-  pub only_then : IsTrue now → IsTrue before ⊎ IfOk result (λ count. (count ≡ 0) × (0 < room))
+  pub only_then : IsTrue now → IsTrue before ⊎ ((result ≡ Ok 0) × (0 < room))
   pub stays : IsTrue before → IsTrue now × IfOk result (λ count. count ≡ 0)

@@ -1,30 +1,29 @@
 -- Each call of a desk in memory: the desk afterwards, and the part that the call added.
-use Rattle.std.proofs.Common.{◌≡◌, ◌≢◌, ◌==◌, ◌<◌, ◌≤◌, ◌+◌, ◌^◌, ◌++◌, ◌∷◌, ◌∙◌, [], List, ℕ, Bool, true, false, Option, Some, None, Result, Ok, Err, OnErr, All, length, unwrap_or, refl, sym, ap, subst, arith, append_assoc}
-use Rattle.std.proofs.lemmas.Bool.{true≢false}
+use Rattle.std.proofs.Common.{◌≡◌, ◌≤◌, ◌++◌, ◌∷◌, ◌∙◌, [], List, ℕ, true, false, Option, Some, None, Result, Ok, Err, OnErr, All, length, unwrap_or, refl, sym, ap, subst, arith, append_assoc}
 use Rattle.std.proofs.lemmas.List.{length-append}
 use Rattle.std.proofs.lemmas.List.Elements.{All-nil, All-cons}
 use Rattle.q4_value.specs.declared.row.Value.{Value}
 use Rattle.q4_machine.specs.declared.entry.Entry.{Entry}
 use Rattle.q4_machine.specs.declared.entry.Call.{Call}
-use Rattle.q4_machine.specs.declared.entry.Call.TheVariants.{Opened, Open, Insert, Look, End, Close, Sync}
+use Rattle.q4_machine.specs.declared.entry.Call.TheVariants.{Open, Insert, Look, End, Close, Sync}
 use Rattle.q4_machine.specs.declared.entry.Refusal.{Refusal}
 use Rattle.q4_machine.specs.declared.entry.Refusal.TheVariants.{NotOwner}
 use Rattle.q4_machine.specs.declared.entry.Reply.{Reply}
 use Rattle.q4_machine.specs.declared.entry.Reply.TheVariants as reply
 use Rattle.q4_machine.specs.declared.session.SessionMode.{SessionMode}
 use Rattle.q4_machine.specs.declared.session.SessionMode.TheVariants.{NonOwner, Empty, Owner}
-use Rattle.q4_machine.specs.Machine.{MachineState, mode_of}
+use Rattle.q4_machine.specs.Machine.{mode_of}
 use Rattle.q4_machine.specs.declared.table.Added.{Added}
 use Rattle.q4_machine.specs.declared.table.Added.TheVariants.{New}
 use Rattle.q4_machine.specs.declared.desk.ModeFault.TheVariants as fault
 use Rattle.q4_machine.specs.Step.{end_reply, look_reply, added_reply}
-use Rattle.q4_machine.specs.History.{state_after, is_added, is_change, is_owner, IsSettled, SyncsAreOwed, IsOpenFor}
-use Rattle.q4_machine.specs.Parts.{calls_of, of_caller, Answer, Replied, ends_first, ending, Stands, IsPart, IsInOrder, Grows, IsOpened, IsClosed, insert_answer, wait_answer, end_answer}
+use Rattle.q4_machine.specs.History.{state_after, is_added, is_owner, IsSettled, SyncsAreOwed, IsOpenFor}
+use Rattle.q4_machine.specs.Parts.{calls_of, Answer, Replied, ends_first, ending, IsPart, IsInOrder, Grows, IsOpened, IsClosed, insert_answer, wait_answer, end_answer}
 use Rattle.q4_machine.specs.Recorded.{Recorded, DeskState, entry, pushed, HasRoom, IsSound}
 use Rattle.q4_machine.specs.OneDesk.{IsDesk}
 use Rattle.q4_machine.proofs.Lookup.{some_of}
 use Rattle.q4_machine.proofs.Validity.{none_some}
-use Rattle.q4_machine.proofs.Histories.{state_push, settled_push, settled_by_sync, unsettled_push, unsettled_more, owed_push}
+use Rattle.q4_machine.proofs.Histories.{settled_push, settled_by_sync, unsettled_push, unsettled_more, owed_push}
 
 -- ## A desk, from what holds of its history
 

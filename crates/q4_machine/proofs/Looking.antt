@@ -1,22 +1,21 @@
 -- A look takes what it picks, from a valid machine, and each step keeps a machine valid.
-use Rattle.std.proofs.Common.{◌≡◌, ◌≢◌, ◌<◌, ◌+◌, ◌++◌, ◌∷◌, ◌∙◌, [], List, ℕ, Option, Some, None, All, length, drop, set, get_or, refl, sym, ap, subst, arith}
+use Rattle.std.proofs.Common.{◌≡◌, ◌≢◌, ◌<◌, ◌++◌, ◌∷◌, ◌∙◌, List, ℕ, Option, Some, None, All, length, drop, set, get_or, refl, sym, ap, subst}
 use Rattle.std.proofs.Math.Seq.{drop-append_seam}
 use Rattle.std.specs.Prelude.{option_and_then}
-use Rattle.std.specs.Option.{option_map}
-use Rattle.std.proofs.lemmas.List.Elements.{All-get_or, All-append, All-drop, All-head}
+use Rattle.std.proofs.lemmas.List.Elements.{All-get_or, All-drop, All-head}
 use Rattle.q4_machine.specs.declared.session.SessionMode.TheVariants.{NonOwner, Empty, Owner}
 use Rattle.q4_machine.specs.declared.table.StoredRow.{StoredRow}
 use Rattle.q4_machine.specs.declared.entry.Call.{Call}
 use Rattle.q4_machine.specs.declared.entry.Call.TheVariants.{Opened, Open, Insert, Look, End, Close, Sync}
 use Rattle.q4_machine.specs.TableState.{TableState}
-use Rattle.q4_machine.specs.Machine.{MachineState, no_table, table_at, mode_of, owner_at, row_in, with_owner}
+use Rattle.q4_machine.specs.Machine.{MachineState, no_table, table_at, mode_of, with_owner}
 use Rattle.std.proofs.lemmas.List.{get_or_default, set-get_or}
 use Rattle.q4_machine.specs.Pick.{Picked, pick, pick_from}
-use Rattle.q4_machine.specs.Step.{with_rows, with_session, step, MayStep, looked}
+use Rattle.q4_machine.specs.Step.{step, MayStep, looked}
 use Rattle.q4_machine.specs.Valid.{IsValidTable, IsValid}
-use Rattle.q4_machine.specs.Looked.{IsOldest, TakesOldest, TakesNone, LookAnswers}
+use Rattle.q4_machine.specs.Looked.{IsOldest, LookAnswers}
 use Rattle.q4_machine.proofs.Validity.{none_some, mode_given, owner_given}
-use Rattle.q4_machine.proofs.Steps.{valid_quiet, valid_taken, valid_opened, valid_added, valid_ended, valid_closed, owner_same, not_owner, not_empty, owner_in}
+use Rattle.q4_machine.proofs.Steps.{valid_quiet, valid_taken, valid_opened, valid_added, valid_ended, valid_closed, owner_same, not_owner, not_empty}
 use Rattle.q4_machine.proofs.Picks.{PickedAt, picked_at, none_picked, oldest_is}
 
 -- What a look finds, all together.

@@ -1,10 +1,10 @@
 -- What is picked is the oldest row that nobody owns, of the earliest listed table that has one.
-use Rattle.std.proofs.Common.{◌≡◌, ◌≢◌, ◌==◌, ◌<◌, ◌≤◌, ◌+◌, ◌++◌, ◌∷◌, ◌∙◌, [], List, ℕ, Bool, true, false, cond, Option, Some, None, All, map, filter, find, min, length, is_none, unwrap_or, refl, sym, ap, subst, arith}
+use Rattle.std.proofs.Common.{◌≡◌, ◌==◌, ◌<◌, ◌≤◌, ◌+◌, ◌++◌, ◌∷◌, ◌∙◌, [], List, ℕ, Bool, true, false, cond, Option, Some, None, All, map, filter, find, min, length, is_none, refl, sym, ap, subst, arith}
 use Rattle.std.specs.Option.{option_map, option_map_or}
 use Rattle.std.proofs.lemmas.List.Elements.{All-nil, All-cons, All-weaker}
 use Rattle.q4_machine.specs.declared.table.StoredRow.{StoredRow}
 use Rattle.q4_machine.specs.TableState.{TableState}
-use Rattle.q4_machine.specs.Machine.{MachineState, table_at, row_in}
+use Rattle.q4_machine.specs.Machine.{table_at, row_in}
 use Rattle.q4_machine.specs.Pick.{least, unowned_numbers, oldest_number, Picked, pick_or, pick_from}
 use Rattle.q4_machine.specs.Looked.{NoneUnowned, IsOldest}
 use Rattle.q4_machine.proofs.Lookup.{some_of}

@@ -1,5 +1,5 @@
 -- Every machine that a legal history reaches is valid.
-use Rattle.std.proofs.Common.{◌≡◌, ◌≢◌, ◌==◌, ◌<◌, ◌≤◌, ◌++◌, ◌∷◌, ◌∙◌, ◌⊎◌, [], List, ℕ, Bool, true, false, cond, Option, Some, None, All, length, refl, sym, ap, subst, inl, inr, arith, append_assoc, append-nil}
+use Rattle.std.proofs.Common.{◌≡◌, ◌≢◌, ◌==◌, ◌++◌, ◌∷◌, ◌∙◌, [], List, ℕ, true, false, cond, Some, None, All, length, refl, sym, ap, subst, inl, inr, arith, append_assoc, append-nil}
 use Rattle.std.proofs.Math.ListN.{get_or-eq_default}
 use Rattle.std.proofs.lemmas.Bool.{cases_lt}
 use Rattle.std.proofs.lemmas.List.Elements.{All-head, All-tail, All-get_or}
@@ -10,7 +10,7 @@ use Rattle.q4_machine.specs.declared.entry.Entry.{Entry}
 use Rattle.q4_machine.specs.declared.entry.Call.TheVariants.{Opened, Look}
 use Rattle.q4_machine.specs.declared.table.StoredRow.{StoredRow}
 use Rattle.q4_machine.specs.TableState.{TableState}
-use Rattle.q4_machine.specs.Machine.{MachineState, no_table, table_at, owner_at, row_in}
+use Rattle.q4_machine.specs.Machine.{no_table, table_at, row_in}
 use Rattle.q4_machine.specs.Step.{step, MayStep}
 use Rattle.q4_machine.specs.Valid.{IsValidTable, IsValid}
 use Rattle.q4_machine.specs.History.{nothing, advance, state_after, IsNext, IsOpening, IsLegal}

@@ -1,5 +1,5 @@
 -- One more entry of a machine that records its history.
-use Rattle.std.proofs.Common.{◌≡◌, ◌≢◌, ◌==◌, ◌<◌, ◌≤◌, ◌+◌, ◌^◌, ◌++◌, ◌∷◌, ◌∙◌, [], List, ℕ, Bool, true, false, Option, Some, None, All, length, refl, sym, ap, subst, arith, append-nil}
+use Rattle.std.proofs.Common.{◌≡◌, ◌≢◌, ◌<◌, ◌+◌, ◌^◌, ◌++◌, ◌∷◌, ◌∙◌, [], List, ℕ, false, Option, Some, None, All, length, refl, sym, ap, subst, arith, append-nil}
 use Rattle.std.proofs.lemmas.List.{length-set}
 use Rattle.std.proofs.lemmas.Bool.{true≢false}
 use Rattle.std.proofs.lemmas.List.Elements.{All-push, All-weaker}
@@ -15,11 +15,11 @@ use Rattle.q4_machine.specs.declared.entry.Reply.{Reply}
 use Rattle.q4_machine.specs.declared.entry.Reply.TheVariants as reply
 use Rattle.q4_machine.specs.declared.session.SessionMode.{SessionMode}
 use Rattle.q4_machine.specs.declared.session.SessionMode.TheVariants.{NonOwner, Empty, Owner}
-use Rattle.q4_machine.specs.Machine.{MachineState, mode_of, table_at, with_owner, without_row}
+use Rattle.q4_machine.specs.Machine.{MachineState, mode_of, table_at}
 use Rattle.q4_machine.specs.Pick.{Picked, pick}
-use Rattle.q4_machine.specs.Step.{step, MayStep, looked, ended, closed, add_row, number_limit}
-use Rattle.q4_machine.specs.History.{state_after, advance, is_open, opener, IsOpenFor, IsNext, IsLegal}
-use Rattle.q4_machine.specs.Recorded.{entry, IsSound, IsRecorded}
+use Rattle.q4_machine.specs.Step.{step, MayStep, looked, ended, closed, number_limit}
+use Rattle.q4_machine.specs.History.{state_after, is_open, opener, IsOpenFor, IsLegal}
+use Rattle.q4_machine.specs.Recorded.{entry, IsRecorded}
 use Rattle.q4_machine.proofs.Validity.{none_some, mode_given}
 use Rattle.q4_machine.proofs.Histories.{state_push, legal_push, opener_more, opener_now}
 

@@ -1,5 +1,5 @@
 -- Each step leads from a valid machine to a valid one.
-use Rattle.std.proofs.Common.{◌≡◌, ◌≢◌, ◌==◌, ◌<◌, ◌≤◌, ◌+◌, ◌++◌, ◌∷◌, ◌∙◌, ◌⊎◌, [], List, ℕ, Bool, true, false, cond, not, Option, Some, None, All, map, filter, set, get_or, length, unwrap_or, refl, sym, ap, subst, arith, inl, inr, get_or-set_same, get_or-set_other}
+use Rattle.std.proofs.Common.{◌≡◌, ◌≢◌, ◌==◌, ◌<◌, ◌+◌, ◌∷◌, ◌∙◌, [], List, ℕ, true, false, cond, not, Option, Some, None, map, get_or, length, unwrap_or, refl, sym, ap, subst, arith, inl, inr, get_or-set_same, get_or-set_other}
 use Rattle.std.specs.Option.{option_map}
 use Rattle.std.specs.Prelude.{option_and_then}
 use Rattle.std.proofs.Math.ListN.{get_or-eq_default}
@@ -11,14 +11,13 @@ use Rattle.q4_machine.specs.declared.session.SessionMode.{SessionMode}
 use Rattle.q4_machine.specs.declared.session.SessionMode.TheVariants.{NonOwner, Empty, Owner}
 use Rattle.q4_machine.specs.declared.session.OpenSession.{OpenSession}
 use Rattle.q4_machine.specs.declared.table.StoredRow.{StoredRow}
-use Rattle.q4_machine.specs.declared.entry.Call.{Call}
-use Rattle.q4_machine.specs.declared.entry.Call.TheVariants.{Opened, Open, Insert, Look, End, Close, Sync}
+use Rattle.q4_machine.specs.declared.entry.Call.TheVariants.{Open, Insert}
 use Rattle.q4_machine.specs.TableState.{TableState}
 use Rattle.q4_machine.specs.Machine.{MachineState, no_table, table_at, mode_of, owner_at, session_in, row_in, in_mode, with_mode, without_session, owned_by, with_owner, without_row}
 use Rattle.q4_machine.specs.Fits.{RowFits}
-use Rattle.q4_machine.specs.Step.{with_table, with_rows, with_session, with_none, add_row, number_limit, step, MayStep, looked, ended, closed}
+use Rattle.q4_machine.specs.Step.{with_table, with_rows, with_session, with_none, add_row, number_limit, step, ended, closed}
 use Rattle.q4_machine.specs.Valid.{RiseBelow, IsValidTable, IsValid}
-use Rattle.q4_machine.proofs.Lookup.{found, found_key, found_others, found_gone, found_before, found_last}
+use Rattle.q4_machine.proofs.Lookup.{found, found_others, found_gone, found_before, found_last}
 use Rattle.q4_machine.proofs.Rising.{rise-push, rise-filter, none_next, map_keeps}
 use Rattle.q4_machine.proofs.Validity.{Agrees, OwnsNothing, agrees_quiet, agrees_take, agrees_leave, none_some, keeps_number, keeps_session, mode_given, mode_other, owner_given, owner_other}
 

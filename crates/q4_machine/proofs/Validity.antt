@@ -1,16 +1,14 @@
 -- Each step leads from a valid machine to a valid one.
-use Rattle.std.proofs.Common.{◌≡◌, ◌≢◌, ◌==◌, ◌<◌, ◌≤◌, ◌+◌, ◌++◌, ◌∷◌, ◌∙◌, ◌⊎◌, [], List, ℕ, Bool, true, false, cond, not, Option, Some, None, All, map, filter, find, set, get_or, length, refl, sym, ap, subst, arith, inl, inr}
-use Rattle.std.specs.Option.{option_map, option_or}
+use Rattle.std.proofs.Common.{◌≡◌, ◌≢◌, ◌==◌, ◌∙◌, ◌⊎◌, List, ℕ, Bool, true, false, cond, Option, Some, None, refl, sym, ap, inl, inr}
+use Rattle.std.specs.Option.{option_map}
 use Rattle.std.specs.Prelude.{option_and_then}
-use Rattle.std.proofs.lemmas.Bool.{eqb-true, ne_eqb, eq-eqb, cases_eq}
+use Rattle.std.proofs.lemmas.Bool.{ne_eqb, eq-eqb, cases_eq}
 use Rattle.q4_machine.specs.declared.session.SessionMode.{SessionMode}
 use Rattle.q4_machine.specs.declared.session.SessionMode.TheVariants.{NonOwner, Empty, Owner}
 use Rattle.q4_machine.specs.declared.session.OpenSession.{OpenSession}
 use Rattle.q4_machine.specs.declared.table.StoredRow.{StoredRow}
-use Rattle.q4_machine.specs.TableState.{TableState}
-use Rattle.q4_machine.specs.Machine.{MachineState, no_table, table_at, mode_of, owner_at, session_in, row_in, in_mode, with_mode, without_session, owned_by, with_owner, without_row}
-use Rattle.q4_machine.specs.Valid.{RiseBelow, IsValidTable, IsValid}
-use Rattle.q4_machine.proofs.Lookup.{found, found_key, some_of, found-map, found_others, found_gone, found_before, found_last}
+use Rattle.q4_machine.specs.Machine.{session_in, row_in, in_mode, with_mode, owned_by, with_owner}
+use Rattle.q4_machine.proofs.Lookup.{found, found_key, some_of, found-map}
 
 -- ## Modes and owners that agree, as functions of a session and of a row
 

@@ -1,5 +1,5 @@
 -- What a look of a legal history was answered, in the rules' words.
-use Rattle.std.specs.Prelude.{◌≡◌, ◌+◌, ◌≤◌, ℕ, List, ◌∷◌, ◌++◌, Option, None, Some, All, length}
+use Rattle.std.specs.Prelude.{◌≡◌, ◌+◌, ◌≤◌, ℕ, List, ◌∷◌, ◌++◌, None, Some, All, length}
 use Rattle.q4_machine.specs.declared.table.StoredRow.{StoredRow}
 use Rattle.q4_machine.specs.declared.session.SessionMode.TheVariants.{Empty, Owner}
 use Rattle.q4_machine.specs.declared.entry.Reply.{Reply}

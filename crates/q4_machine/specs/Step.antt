@@ -1,10 +1,9 @@
 -- What each call does to the machine, and what it is answered.
-use Rattle.std.specs.Prelude.{◌≡◌, ◌≢◌, ◌<◌, ◌+◌, ◌^◌, ℕ, List, [], ◌∷◌, ◌++◌, Option, None, Some, Result, Ok, Err, All, length, slice_set}
+use Rattle.std.specs.Prelude.{◌≡◌, ◌<◌, ◌+◌, ◌^◌, ℕ, List, [], ◌∷◌, ◌++◌, Option, None, Some, Result, Ok, Err, All, length, slice_set}
 use Rattle.q4_value.specs.declared.row.Value.{Value}
 use Rattle.q4_machine.specs.declared.table.StoredRow.{StoredRow}
 use Rattle.q4_machine.specs.declared.session.SessionMode.{SessionMode}
 use Rattle.q4_machine.specs.declared.session.SessionMode.TheVariants.{NonOwner, Empty, Owner}
-use Rattle.q4_machine.specs.declared.session.OpenSession.{OpenSession}
 use Rattle.q4_machine.specs.declared.table.Added as added
 use Rattle.q4_machine.specs.declared.table.Added.TheVariants.{New}
 use Rattle.q4_machine.specs.declared.entry.Call.{Call}

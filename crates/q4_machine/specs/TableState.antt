@@ -1,5 +1,5 @@
 -- What contracts see of a table.
-use Rattle.std.specs.Prelude.{ℕ, List, Option}
+use Rattle.std.specs.Prelude.{ℕ, List}
 use Rattle.q4_machine.specs.declared.table.StoredRow.{StoredRow}
 
 -- the number that the next row gets, and the rows

@@ -1,11 +1,8 @@
-use Rattle.std.proofs.Common.{◌≡◌, ◌≢◌, ◌<◌, ◌∙◌, Option, Some, None, All, ℕ, length, refl, sym, ap, subst, arith}
+use Rattle.std.proofs.Common.{◌≡◌, Some, sym, subst, arith}
 use Rattle.q4_machine.specs.declared.session.SessionMode.TheVariants.{NonOwner, Empty, Owner}
-use Rattle.q4_machine.specs.Machine.{MachineState, mode_of, owner_at, table_at}
-use Rattle.q4_machine.specs.Pick.{Picked}
-use Rattle.q4_machine.specs.Found.{picked_of}
-use Rattle.q4_machine.specs.Valid.{IsValid}
-use Rattle.q4_machine.proofs.Steps.{valid_quiet, valid_removed, valid_left, valid_given_back, owned_inside, not_owner, not_empty}
-use Rattle.q4_machine.proofs.Looking.{Finds, finds, valid_found, indexed, found_pick}
+use Rattle.q4_machine.specs.Machine.{MachineState, mode_of}
+use Rattle.q4_machine.proofs.Steps.{valid_quiet, valid_removed, owned_inside, not_owner, not_empty}
+use Rattle.q4_machine.proofs.Looking.{indexed}
 use Rattle.q4_machine.proofs.machine.Machine.end.Goals as goal
 
 pub invariant_of-self : goal.invariant_of-self

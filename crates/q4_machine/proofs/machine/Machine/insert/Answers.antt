@@ -1,4 +1,4 @@
-use Rattle.std.proofs.Common.{◌≡◌, ◌<◌, length, sym, subst}
+use Rattle.std.proofs.Common.{◌<◌, length, sym, subst}
 use Rattle.q4_machine.specs.TableState.{TableState}
 use Rattle.q4_machine.specs.Machine.{MachineState, table_at}
 use Rattle.q4_machine.specs.Step.{number_limit}

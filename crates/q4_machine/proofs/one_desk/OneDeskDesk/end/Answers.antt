@@ -1,15 +1,10 @@
-use Rattle.std.proofs.Common.{◌≡◌, ◌∙◌, ℕ, List, Option, Some, None, Ok, Err, OnErr, sym, ap, subst, refl, false, is_some}
-use Rattle.q4_machine.specs.declared.entry.Entry.{Entry}
+use Rattle.std.proofs.Common.{◌≡◌, ◌∙◌, Err, sym, ap, refl, false, is_some}
 use Rattle.q4_machine.specs.declared.entry.Call.TheVariants as call
 use Rattle.q4_machine.specs.declared.entry.Reply.TheVariants as reply
 use Rattle.q4_machine.specs.declared.desk.ModeFault.TheVariants as fault
-use Rattle.q4_machine.specs.declared.session.SessionMode.TheVariants.{NonOwner, Empty, Owner}
 use Rattle.q4_machine.specs.Machine.{mode_of}
 use Rattle.q4_machine.specs.History.{state_after, is_owner}
 use Rattle.q4_machine.specs.Parts.{Replied, end_answer}
-use Rattle.q4_machine.specs.Step.{look_reply, added_reply, end_reply}
-use Rattle.q4_machine.specs.Recorded.{Recorded}
-use Rattle.q4_machine.specs.OneDesk.{IsDesk}
 use Rattle.q4_machine.proofs.Desks.{desk_reserved, ended_synced, ended_calm, part_for, part_as, end_refused}
 use Rattle.q4_machine.proofs.one_desk.OneDeskDesk.end.Goals as goal
 

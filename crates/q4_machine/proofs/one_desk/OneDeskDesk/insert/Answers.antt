@@ -1,11 +1,7 @@
-use Rattle.std.proofs.Common.{◌≡◌, ◌∙◌, ℕ, List, Option, Some, None, Ok, Err, OnErr, sym, ap, subst, refl}
-use Rattle.q4_machine.specs.declared.entry.Entry.{Entry}
+use Rattle.std.proofs.Common.{Ok, sym, subst, refl}
 use Rattle.q4_machine.specs.declared.entry.Call.TheVariants as call
-use Rattle.q4_machine.specs.declared.session.SessionMode.TheVariants.{NonOwner, Empty, Owner}
-use Rattle.q4_machine.specs.Machine.{mode_of}
-use Rattle.q4_machine.specs.History.{state_after}
 use Rattle.q4_machine.specs.Parts.{Replied, insert_answer}
-use Rattle.q4_machine.specs.Step.{look_reply, added_reply, end_reply}
+use Rattle.q4_machine.specs.Step.{added_reply}
 use Rattle.q4_machine.specs.Recorded.{Recorded}
 use Rattle.q4_machine.specs.OneDesk.{IsDesk}
 use Rattle.q4_machine.proofs.Desks.{desk_reserved, inserted, part_for, part_as, insert_replied, added_changes}

@@ -1,13 +1,11 @@
-use Rattle.std.proofs.Common.{◌≡◌, ◌∙◌, ℕ, List, Option, Some, None, Ok, Err, OnErr, sym, ap, subst, refl}
+use Rattle.std.proofs.Common.{◌≡◌, ◌∙◌, List, Some, Ok, OnErr, sym, ap, subst}
 use Rattle.q4_machine.specs.declared.entry.Entry.{Entry}
 use Rattle.q4_machine.specs.declared.entry.Call.TheVariants as call
-use Rattle.q4_machine.specs.declared.session.SessionMode.TheVariants.{NonOwner, Empty, Owner}
+use Rattle.q4_machine.specs.declared.session.SessionMode.TheVariants.{NonOwner}
 use Rattle.q4_machine.specs.Machine.{mode_of}
 use Rattle.q4_machine.specs.History.{state_after}
 use Rattle.q4_machine.specs.Parts.{Replied, wait_answer}
-use Rattle.q4_machine.specs.Step.{look_reply, added_reply, end_reply}
-use Rattle.q4_machine.specs.Recorded.{Recorded}
-use Rattle.q4_machine.specs.OneDesk.{IsDesk}
+use Rattle.q4_machine.specs.Step.{look_reply}
 use Rattle.q4_machine.proofs.Desks.{desk_reserved, looked_only, looked_empty, looked_owner, part_for, part_as, wait_replied}
 use Rattle.q4_machine.proofs.one_desk.OneDeskDesk.wait.Goals as goal
 

@@ -1,6 +1,6 @@
-use Rattle.std.proofs.Common.{◌≡◌, ◌∙◌, Some, length, sym, ap, subst, arith}
+use Rattle.std.proofs.Common.{sym, subst}
 use Rattle.q4_machine.specs.History.{IsOpenFor}
-use Rattle.q4_machine.specs.Recorded.{Recorded, HasRoom, IsSound}
+use Rattle.q4_machine.specs.Recorded.{Recorded, HasRoom}
 use Rattle.q4_machine.proofs.Recording.{end_goes, end_mode}
 use Rattle.q4_machine.proofs.recorded.RecordedMachine.end.Goals as goal
 

@@ -1,7 +1,7 @@
-use Rattle.std.proofs.Common.{◌≡◌, ◌∙◌, Some, length, sym, ap, subst, arith}
+use Rattle.std.proofs.Common.{sym, subst}
 use Rattle.q4_machine.specs.Step.{added_reply}
 use Rattle.q4_machine.specs.History.{IsOpenFor}
-use Rattle.q4_machine.specs.Recorded.{Recorded, HasRoom, IsSound}
+use Rattle.q4_machine.specs.Recorded.{Recorded, HasRoom}
 use Rattle.q4_machine.proofs.Recording.{insert_goes}
 use Rattle.q4_machine.proofs.recorded.RecordedMachine.insert.Goals as goal
 

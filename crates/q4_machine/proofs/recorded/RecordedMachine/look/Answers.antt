@@ -1,8 +1,8 @@
-use Rattle.std.proofs.Common.{◌≡◌, ◌∙◌, Some, length, sym, ap, subst, arith}
+use Rattle.std.proofs.Common.{◌≡◌, Some, sym, subst}
 use Rattle.q4_machine.specs.declared.session.SessionMode.TheVariants.{NonOwner}
 use Rattle.q4_machine.specs.Machine.{mode_of}
 use Rattle.q4_machine.specs.History.{state_after, IsOpenFor}
-use Rattle.q4_machine.specs.Recorded.{Recorded, HasRoom, IsSound}
+use Rattle.q4_machine.specs.Recorded.{Recorded, HasRoom}
 use Rattle.q4_machine.proofs.Recording.{look_goes}
 use Rattle.q4_machine.proofs.recorded.RecordedMachine.look.Goals as goal
 

@@ -1,6 +1,5 @@
-use Rattle.std.proofs.Common.{◌≡◌, ◌∙◌, Some, length, sym, ap, subst, arith}
-use Rattle.q4_machine.specs.History.{IsOpenFor}
-use Rattle.q4_machine.specs.Recorded.{Recorded, HasRoom, IsSound}
+use Rattle.std.proofs.Common.{sym, subst}
+use Rattle.q4_machine.specs.Recorded.{Recorded, HasRoom}
 use Rattle.q4_machine.proofs.Recording.{open_goes}
 use Rattle.q4_machine.proofs.recorded.RecordedMachine.open.Goals as goal
 

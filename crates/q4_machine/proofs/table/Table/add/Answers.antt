@@ -1,7 +1,6 @@
-use Rattle.std.proofs.Common.{◌≡◌, ◌++◌, ◌∷◌, [], sym, subst, map, arith}
+use Rattle.std.proofs.Common.{map, arith}
 use Rattle.std.proofs.lemmas.List.{map-append}
 use Rattle.q4_machine.specs.declared.table.StoredRow.{StoredRow}
-use Rattle.q4_machine.specs.Valid.{RiseBelow}
 use Rattle.q4_machine.proofs.Rising.{rise-push}
 use Rattle.q4_machine.proofs.table.Table.add.Goals as goal
 

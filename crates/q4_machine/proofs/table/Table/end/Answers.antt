@@ -1,7 +1,6 @@
-use Rattle.std.proofs.Common.{◌≡◌, ◌==◌, not, filter, sym, subst, map, refl, rules}
+use Rattle.std.proofs.Common.{◌≡◌, ◌==◌, not, refl, rules}
 use Rattle.std.proofs.lemmas.Fn.{filter_same}
 use Rattle.q4_machine.specs.declared.table.StoredRow.{StoredRow}
-use Rattle.q4_machine.specs.Valid.{RiseBelow}
 use Rattle.q4_machine.specs.Machine.{without_row}
 use Rattle.q4_machine.proofs.Rising.{rise-filter}
 use Rattle.q4_machine.proofs.table.Table.end.Goals as goal

@@ -1,6 +1,5 @@
-use Rattle.std.proofs.Common.{Some, sym, subst, map}
+use Rattle.std.proofs.Common.{Some}
 use Rattle.q4_machine.specs.declared.table.StoredRow.{StoredRow}
-use Rattle.q4_machine.specs.Valid.{RiseBelow}
 use Rattle.q4_machine.specs.Machine.{owned_by}
 use Rattle.q4_machine.proofs.Rising.{map_keeps}
 use Rattle.q4_machine.proofs.Validity.{keeps_number}
