@@ -3,3 +3,4 @@ pub mod Fit
 pub mod Spelling
 pub mod Reading
 pub mod Escape
+pub mod Names
