@@ -1,0 +1,153 @@
+ghost use Rattle.std.specs.Prelude.{IfOk, IfErr};
+ghost use Rattle.q4_def.specs.Document.{Reads};
+ghost use Rattle.q4_def.specs.Faults.{ReadFails};
+
+use crate::document::{entries_of, strings_of, tables_of};
+use crate::name::{is_column_name, is_name};
+use crate::{DefFault, Defs, TableDef};
+use q4_value::{Column, Columns, Kind, NoMemory, Words};
+use std::alloc::Global;
+use toml::{Table, Value};
+
+/// The most tables of a file.
+const TABLE_LIMIT: usize = 16;
+
+/// The most columns of a table.
+const COLUMN_LIMIT: usize = 32;
+
+/// The definitions that the bytes have, read with `toml`. No byte at all is the built-in table
+/// `jobs` of the columns `prio int` and `body text`.
+pub fn read_defs(alloc: Global, bytes: &[u8]) -> Result<Defs, DefFault>
+    ensures defs { IfOk result (λ defs. Reads bytes.now defs) }
+    ensures cause { IfErr result (ReadFails bytes.now) }
+{
+    if bytes.is_empty() {
+        return Ok(Defs::from_tables(built_in(alloc)?));
+    }
+    let document = read_toml(alloc, bytes)?;
+    let Some(tables) = tables_of(&document) else {
+        return Err(DefFault::Shape(0));
+    };
+    if tables.len() > TABLE_LIMIT {
+        return Err(DefFault::Count(0));
+    }
+    Ok(Defs::from_tables(read_tables(alloc, tables)?))
+}
+
+fn built_in(alloc: Global) -> Result<Vec<TableDef>, DefFault> {
+    let mut columns = Columns::new(alloc);
+    push_column(&mut columns, new_column(alloc, "prio", Kind::Int)?)?;
+    push_column(&mut columns, new_column(alloc, "body", Kind::Words)?)?;
+    let mut tables = Vec::new(alloc);
+    let name = Words::new(alloc, "jobs")?;
+    push_table(&mut tables, TableDef { name, columns })?;
+    Ok(tables)
+}
+
+fn new_column(alloc: Global, name: &str, kind: Kind) -> Result<Column, NoMemory> {
+    Ok(Column {
+        name: Words::new(alloc, name)?,
+        kind,
+    })
+}
+
+fn push_column(columns: &mut Columns, column: Column) -> Result<(), NoMemory> {
+    match columns.push(column) {
+        Ok(()) => Ok(()),
+        Err((_, fault)) => Err(fault),
+    }
+}
+
+fn push_table(tables: &mut Vec<TableDef>, def: TableDef) -> Result<(), NoMemory> {
+    match tables.push(def) {
+        Ok(()) => Ok(()),
+        Err(_) => Err(NoMemory),
+    }
+}
+
+fn read_toml(alloc: Global, bytes: &[u8]) -> Result<Table, DefFault> {
+    match toml::table_from_slice(alloc, bytes) {
+        Ok(document) => Ok(document),
+        Err(fault) if fault.is_memory() => Err(DefFault::Memory),
+        Err(_) => Err(DefFault::NotToml),
+    }
+}
+
+fn read_tables(alloc: Global, members: &[Value]) -> Result<Vec<TableDef>, DefFault> {
+    let mut tables = Vec::new(alloc);
+    for member in members {
+        let def = read_table(alloc, member, &tables)?;
+        push_table(&mut tables, def)?;
+    }
+    Ok(tables)
+}
+
+// The table behind the earlier ones.
+fn read_table(alloc: Global, member: &Value, earlier: &[TableDef]) -> Result<TableDef, DefFault> {
+    let table = earlier.len() as u32 + 1;
+    let Some((name, columns)) = entries_of(member) else {
+        return Err(DefFault::Shape(table));
+    };
+    let Some(texts) = strings_of(alloc, columns)? else {
+        return Err(DefFault::Shape(table));
+    };
+    check_head(earlier, name, texts.len(), table)?;
+    Ok(TableDef {
+        name: Words::new(alloc, name)?,
+        columns: read_columns(alloc, &texts, table)?,
+    })
+}
+
+// What of a table is looked at before its columns.
+fn check_head(
+    earlier: &[TableDef],
+    name: &str,
+    columns: usize,
+    table: u32,
+) -> Result<(), DefFault> {
+    if !is_name(name) {
+        return Err(DefFault::BadName(table, 0));
+    }
+    if earlier.iter().any(|def| def.name.as_str() == name) {
+        return Err(DefFault::Twice(table, 0));
+    }
+    if columns == 0 || columns > COLUMN_LIMIT {
+        return Err(DefFault::Count(table));
+    }
+    Ok(())
+}
+
+fn read_columns(alloc: Global, texts: &[&str], table: u32) -> Result<Columns, DefFault> {
+    let mut columns = Columns::new(alloc);
+    for text in texts {
+        let column = read_column(alloc, text, columns.as_slice(), table)?;
+        push_column(&mut columns, column)?;
+    }
+    Ok(columns)
+}
+
+// The column behind the earlier ones of its table.
+fn read_column(
+    alloc: Global,
+    text: &str,
+    earlier: &[Column],
+    table: u32,
+) -> Result<Column, DefFault> {
+    let place = earlier.len() as u32 + 1;
+    let (name, word) = match text.split_once(' ') {
+        Some((name, word)) => (name, word),
+        None => (text, ""),
+    };
+    if !is_column_name(name) {
+        return Err(DefFault::BadName(table, place));
+    }
+    let kind = match word {
+        "int" => Kind::Int,
+        "text" => Kind::Words,
+        _ => return Err(DefFault::BadKind(table, place)),
+    };
+    if earlier.iter().any(|column| column.name.as_str() == name) {
+        return Err(DefFault::Twice(table, place));
+    }
+    Ok(new_column(alloc, name, kind)?)
+}
