@@ -1,5 +1,5 @@
 -- The definitions that a document has, by what `toml` reads in it.
-use Rattle.std.specs.Prelude.{◌≡◌, ◌≢◌, ℕ, ◌<◌, List, [], ◌∷◌, ◌++◌, length, map, Option, Some, None, IsUtf8, codes}
+use Rattle.std.specs.Prelude.{◌≡◌, ℕ, ◌<◌, List, [], ◌∷◌, ◌++◌, length, map, Some, None, Contains, IsUtf8, codes}
 use Rattle.std.specs.List.{AllZip}
 use Rattle.toml.specs.Data.{Data, string, array, table, Members, get_member}
 use Rattle.toml.specs.View.{items_of}
@@ -15,19 +15,27 @@ pub record IsToml (bytes : List ℕ) (document : Members) : Type 0 where
   pub utf8 : IsUtf8 bytes
   pub reads : parse_document bytes ≡ Some document
 
+-- each key that has a value is one of these
+abbrev pub HasOnly : List (List ℕ) → Members → Type 0
+HasOnly keys members = (key : List ℕ) → (Contains keys key → ⊥) → get_member key members ≡ None
+
 -- the document has the one key `table`, an array of these members, of which there is one or more
 pub record HasTables (document : Members) (tables : List Data) : Type 0 where
   pub tables_are : get_member (codes "table") document ≡ Some (array (items_of tables))
-  pub no_other : (key : List ℕ) → key ≢ codes "table" → get_member key document ≡ None
+  pub no_other : HasOnly (codes "table" ∷ []) document
   pub some : 0 < length tables
 
--- the member has exactly the keys `name`, a string, and `columns`, an array of strings
-pub record IsTable (member : Data) (name : List ℕ) (columns : List (List ℕ)) : Type 0 where
+-- the member has exactly the keys `name`, a string, and `columns`, an array
+pub record HasEntries (member : Data) (name : List ℕ) (columns : List Data) : Type 0 where
   pub entries : Members
   pub is_table : member ≡ table entries
   pub name_is : get_member (codes "name") entries ≡ Some (string name)
-  pub columns_are : get_member (codes "columns") entries ≡ Some (array (items_of (map string columns)))
-  pub no_other : (key : List ℕ) → key ≢ codes "name" → key ≢ codes "columns" → get_member key entries ≡ None
+  pub columns_are : get_member (codes "columns") entries ≡ Some (array (items_of columns))
+  pub no_other : HasOnly (codes "name" ∷ codes "columns" ∷ []) entries
+
+-- these, where each column is a string
+abbrev pub IsTable : Data → List ℕ → List (List ℕ) → Type 0
+IsTable member name texts = HasEntries member name (map string texts)
 
 abbrev pub kind_word : Kind → List ℕ
 kind_word kind.Int = codes "int"

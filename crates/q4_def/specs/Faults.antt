@@ -41,24 +41,24 @@ pub record FirstColumnFails (texts : List (List ℕ)) (i : ℕ) (why : DefFault)
   pub fails : ColumnFails earlier text i (length earlier + 1) why
 
 -- the table's name is good and new, and it has 1 to 32 columns
-pub record IsHead (names : List (List ℕ)) (name : List ℕ) (texts : List (List ℕ)) : Type 0 where
+pub record IsHead (names : List (List ℕ)) (name : List ℕ) (count : ℕ) : Type 0 where
   pub named : IsName name
   pub fresh : Contains names name → ⊥
-  pub some : 0 < length texts
-  pub few : length texts ≤ 32
+  pub some : 0 < count
+  pub few : count ≤ 32
 
 -- Why the table fails before its columns are looked at: its name, else a name that an earlier table has, else the number of columns.
-abbrev pub HeadFails : List (List ℕ) → List ℕ → List (List ℕ) → ℕ → DefFault → Type 0
-HeadFails names name texts i (fault.BadName table column) = (table ≡ i) × (column ≡ 0) × (IsName name → ⊥)
-HeadFails names name texts i (fault.Twice table column) = (table ≡ i) × (column ≡ 0) × IsName name × Contains names name
-HeadFails names name texts i (fault.Count table) = (table ≡ i) × IsName name × (Contains names name → ⊥) × ((length texts ≡ 0) ⊎ (32 < length texts))
-HeadFails names name texts i _ = ⊥
+abbrev pub HeadFails : List (List ℕ) → List ℕ → ℕ → ℕ → DefFault → Type 0
+HeadFails names name count i (fault.BadName table column) = (table ≡ i) × (column ≡ 0) × (IsName name → ⊥)
+HeadFails names name count i (fault.Twice table column) = (table ≡ i) × (column ≡ 0) × IsName name × Contains names name
+HeadFails names name count i (fault.Count table) = (table ≡ i) × IsName name × (Contains names name → ⊥) × ((count ≡ 0) ⊎ (32 < count))
+HeadFails names name count i _ = ⊥
 
 -- Why the member, number i, is no table behind tables of these names.
 pub data TableFails (names : List (List ℕ)) (member : Data) (i : ℕ) (why : DefFault) : Type 0 where
   shape : why ≡ fault.Shape i → ((name : List ℕ) (texts : List (List ℕ)) → IsTable member name texts → ⊥) → TableFails names member i why
-  head : (name : List ℕ) (texts : List (List ℕ)) → IsTable member name texts → HeadFails names name texts i why → TableFails names member i why
-  columns : (name : List ℕ) (texts : List (List ℕ)) → IsTable member name texts → IsHead names name texts → FirstColumnFails texts i why
+  head : (name : List ℕ) (texts : List (List ℕ)) → IsTable member name texts → HeadFails names name (length texts) i why → TableFails names member i why
+  columns : (name : List ℕ) (texts : List (List ℕ)) → IsTable member name texts → IsHead names name (length texts) → FirstColumnFails texts i why
       → TableFails names member i why
 
 -- the members in front define tables, and the next fails

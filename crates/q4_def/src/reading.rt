@@ -1,6 +1,11 @@
-ghost use Rattle.std.specs.Prelude.{IfOk, IfErr};
-ghost use Rattle.q4_def.specs.Document.{Reads};
-ghost use Rattle.q4_def.specs.Faults.{ReadFails};
+ghost use Rattle.std.specs.Prelude.{◌≡◌, ◌+◌, ◌<◌, ◌≤◌, [], ◌∷◌, ◌++◌, map, length, Contains, IfOk, IfErr, OnOk};
+ghost use Rattle.std.specs.List.{AllZip};
+ghost use Rattle.toml.specs.Data.{Members};
+ghost use Rattle.toml.specs.View.{view, table_view};
+ghost use Rattle.q4_value.specs.Names.{IsColumnName, AreNamed};
+ghost use Rattle.q4_def.specs.Tables.{built_in as built_in_tables, IsTableDef, AreDistinct, names_of};
+ghost use Rattle.q4_def.specs.Document.{IsToml, Defines, Reads, column_text};
+ghost use Rattle.q4_def.specs.Faults.{OrMemory, ColumnFails, FirstColumnFails, IsHead, HeadFails, TableFails, FirstTableFails, ReadFails};
 
 use crate::document::{entries_of, strings_of, tables_of};
 use crate::name::{is_column_name, is_name};
@@ -34,7 +39,9 @@ pub fn read_defs(alloc: Global, bytes: &[u8]) -> Result<Defs, DefFault>
     Ok(Defs::from_tables(read_tables(alloc, tables)?))
 }
 
-fn built_in(alloc: Global) -> Result<Vec<TableDef>, DefFault> {
+fn built_in(alloc: Global) -> Result<Vec<TableDef>, NoMemory>
+    ensures { IfOk result (λ tables. tables.items ≡ built_in_tables) }
+{
     let mut columns = Columns::new(alloc);
     push_column(&mut columns, new_column(alloc, "prio", Kind::Int)?)?;
     push_column(&mut columns, new_column(alloc, "body", Kind::Words)?)?;
@@ -44,28 +51,37 @@ fn built_in(alloc: Global) -> Result<Vec<TableDef>, DefFault> {
     Ok(tables)
 }
 
-fn new_column(alloc: Global, name: &str, kind: Kind) -> Result<Column, NoMemory> {
+fn new_column(alloc: Global, name: &str, kind: Kind) -> Result<Column, NoMemory>
+    ensures { IfOk result (λ column. column ≡ record { name = name.now; kind = kind }) }
+{
     Ok(Column {
         name: Words::new(alloc, name)?,
         kind,
     })
 }
 
-fn push_column(columns: &mut Columns, column: Column) -> Result<(), NoMemory> {
+fn push_column(columns: &mut Columns, column: Column) -> Result<(), NoMemory>
+    ensures { OnOk result (columns.new ≡ columns.old ++ column ∷ []) }
+{
     match columns.push(column) {
         Ok(()) => Ok(()),
         Err((_, fault)) => Err(fault),
     }
 }
 
-fn push_table(tables: &mut Vec<TableDef>, def: TableDef) -> Result<(), NoMemory> {
+fn push_table(tables: &mut Vec<TableDef>, def: TableDef) -> Result<(), NoMemory>
+    ensures { OnOk result (tables.new.items ≡ tables.old.items ++ def ∷ []) }
+{
     match tables.push(def) {
         Ok(()) => Ok(()),
         Err(_) => Err(NoMemory),
     }
 }
 
-fn read_toml(alloc: Global, bytes: &[u8]) -> Result<Table, DefFault> {
+fn read_toml(alloc: Global, bytes: &[u8]) -> Result<Table, DefFault>
+    ensures document { IfOk result (λ document. IsToml bytes.now (table_view document)) }
+    ensures cause { IfErr result (OrMemory (λ why. (why ≡ DefFault.NotToml) × ((document : Members) → IsToml bytes.now document → ⊥))) }
+{
     match toml::table_from_slice(alloc, bytes) {
         Ok(document) => Ok(document),
         Err(fault) if fault.is_memory() => Err(DefFault::Memory),
@@ -73,7 +89,12 @@ fn read_toml(alloc: Global, bytes: &[u8]) -> Result<Table, DefFault> {
     }
 }
 
-fn read_tables(alloc: Global, members: &[Value]) -> Result<Vec<TableDef>, DefFault> {
+fn read_tables(alloc: Global, members: &[Value]) -> Result<Vec<TableDef>, DefFault>
+    requires { length members.now ≤ 16 }
+    ensures defs { IfOk result (λ tables. AllZip Defines (map view members.now) tables.items) }
+    ensures distinct { IfOk result (λ tables. AreDistinct tables.items) }
+    ensures cause { IfErr result (OrMemory (FirstTableFails (map view members.now))) }
+{
     let mut tables = Vec::new(alloc);
     for member in members {
         let def = read_table(alloc, member, &tables)?;
@@ -83,7 +104,13 @@ fn read_tables(alloc: Global, members: &[Value]) -> Result<Vec<TableDef>, DefFau
 }
 
 // The table behind the earlier ones.
-fn read_table(alloc: Global, member: &Value, earlier: &[TableDef]) -> Result<TableDef, DefFault> {
+fn read_table(alloc: Global, member: &Value, earlier: &[TableDef]) -> Result<TableDef, DefFault>
+    requires { length earlier.now < 16 }
+    ensures defines { IfOk result (Defines (view member.now)) }
+    ensures def { IfOk result IsTableDef }
+    ensures fresh { IfOk result (λ def. Contains (names_of earlier.now) def.name → ⊥) }
+    ensures cause { IfErr result (OrMemory (TableFails (names_of earlier.now) (view member.now) (length earlier.now + 1))) }
+{
     let table = earlier.len() as u32 + 1;
     let Some((name, columns)) = entries_of(member) else {
         return Err(DefFault::Shape(table));
@@ -92,19 +119,16 @@ fn read_table(alloc: Global, member: &Value, earlier: &[TableDef]) -> Result<Tab
         return Err(DefFault::Shape(table));
     };
     check_head(earlier, name, texts.len(), table)?;
-    Ok(TableDef {
-        name: Words::new(alloc, name)?,
-        columns: read_columns(alloc, &texts, table)?,
-    })
+    let name = Words::new(alloc, name)?;
+    let columns = read_columns(alloc, &texts, table)?;
+    Ok(TableDef { name, columns })
 }
 
 // What of a table is looked at before its columns.
-fn check_head(
-    earlier: &[TableDef],
-    name: &str,
-    columns: usize,
-    table: u32,
-) -> Result<(), DefFault> {
+fn check_head(earlier: &[TableDef], name: &str, columns: usize, table: u32) -> Result<(), DefFault>
+    ensures head { OnOk result (IsHead (names_of earlier.now) name.now columns) }
+    ensures cause { IfErr result (HeadFails (names_of earlier.now) name.now columns table) }
+{
     if !is_name(name) {
         return Err(DefFault::BadName(table, 0));
     }
@@ -117,7 +141,12 @@ fn check_head(
     Ok(())
 }
 
-fn read_columns(alloc: Global, texts: &[&str], table: u32) -> Result<Columns, DefFault> {
+fn read_columns(alloc: Global, texts: &[&str], table: u32) -> Result<Columns, DefFault>
+    requires { length texts.now ≤ 32 }
+    ensures columns { IfOk result (λ columns. map (λ text. text.now) texts.now ≡ map column_text columns) }
+    ensures named { IfOk result AreNamed }
+    ensures cause { IfErr result (OrMemory (FirstColumnFails (map (λ text. text.now) texts.now) table)) }
+{
     let mut columns = Columns::new(alloc);
     for text in texts {
         let column = read_column(alloc, text, columns.as_slice(), table)?;
@@ -132,7 +161,13 @@ fn read_column(
     text: &str,
     earlier: &[Column],
     table: u32,
-) -> Result<Column, DefFault> {
+) -> Result<Column, DefFault>
+    requires { length earlier.now < 32 }
+    ensures column { IfOk result (λ column. text.now ≡ column_text column) }
+    ensures named { IfOk result (λ column. IsColumnName column.name) }
+    ensures fresh { IfOk result (λ column. Contains (map (λ c. c.name) earlier.now) column.name → ⊥) }
+    ensures cause { IfErr result (OrMemory (ColumnFails earlier.now text.now table (length earlier.now + 1))) }
+{
     let place = earlier.len() as u32 + 1;
     let (name, word) = match text.split_once(' ') {
         Some((name, word)) => (name, word),
