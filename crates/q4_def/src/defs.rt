@@ -59,9 +59,9 @@ impl Defs {
         ensures none { IfNone result (Contains (names_of self.now) name.now → ⊥) }
         ensures well_formed { AreDefs self.now }
     {
-        for (place, def) in self.tables.iter().enumerate() {
-            if def.name.as_str() == name {
-                return Some(place as u32);
+        for place in 0..self.len() {
+            if self.tables[place as usize].name.as_str() == name {
+                return Some(place);
             }
         }
         None

@@ -1,4 +1,4 @@
-ghost use Rattle.std.specs.Prelude.{◌≡◌, ◌+◌, ◌<◌, ◌≤◌, [], ◌∷◌, ◌++◌, map, length, Contains, IfOk, IfErr, OnOk};
+ghost use Rattle.std.specs.Prelude.{◌≡◌, ◌↔◌, ◌+◌, ◌<◌, ◌≤◌, [], ◌∷◌, ◌++◌, map, length, Contains, IfOk, IfErr, OnOk, IsTrue};
 ghost use Rattle.std.specs.List.{AllZip};
 ghost use Rattle.toml.specs.Data.{Members};
 ghost use Rattle.toml.specs.View.{view, table_view};
@@ -132,13 +132,25 @@ fn check_head(earlier: &[TableDef], name: &str, columns: usize, table: u32) -> R
     if !is_name(name) {
         return Err(DefFault::BadName(table, 0));
     }
-    if earlier.iter().any(|def| def.name.as_str() == name) {
+    if has_table(earlier, name) {
         return Err(DefFault::Twice(table, 0));
     }
     if columns == 0 || columns > COLUMN_LIMIT {
         return Err(DefFault::Count(table));
     }
     Ok(())
+}
+
+fn has_table(defs: &[TableDef], name: &str) -> bool
+    ensures { IsTrue result ↔ Contains (names_of defs.now) name.now }
+{
+    defs.iter().any(|def| def.name.as_str() == name)
+}
+
+fn has_column(columns: &[Column], name: &str) -> bool
+    ensures { IsTrue result ↔ Contains (map (λ column. column.name) columns.now) name.now }
+{
+    columns.iter().any(|column| column.name.as_str() == name)
 }
 
 fn read_columns(alloc: Global, texts: &[&str], table: u32) -> Result<Columns, DefFault>
@@ -181,7 +193,7 @@ fn read_column(
         "text" => Kind::Words,
         _ => return Err(DefFault::BadKind(table, place)),
     };
-    if earlier.iter().any(|column| column.name.as_str() == name) {
+    if has_column(earlier, name) {
         return Err(DefFault::Twice(table, place));
     }
     Ok(new_column(alloc, name, kind)?)

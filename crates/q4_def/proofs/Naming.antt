@@ -1,0 +1,37 @@
+-- Which of some things has a name.
+use Rattle.std.proofs.Common.{◌≡◌, ℕ, ◌<◌, Bool, true, false, List, [], ◌∷◌, ◌++◌, map, Contains, IsTrue, refl, ap, sym, ◌∙◌, arith, inl, inr, ◌⊎◌, ⊎_elim}
+use Rattle.std.specs.List.{list_any}
+use Rattle.std.specs.Str.{bytes_eq}
+use Rattle.std.proofs.lemmas.Bool.{or_cases, or_left, or_right}
+use Rattle.std.proofs.lemmas.List.Elements.{Contains-append_left, Contains-append_right, Contains-append_cases, Contains-push, Contains-push_cases}
+use Rattle.std.proofs.lemmas.Slice.Eq.{bytes_eq-Decides}
+
+contains_nothing : {X : Type 0} (y : X) → Contains [] y → ⊥
+contains_nothing y has = omega arith
+
+-- one of the things has the name where the test says so
+pub contains_from_any : {X : Type 0} (name : X → List ℕ) (xs : List X) (y : List ℕ) → list_any (λ x. bytes_eq (name x) y) xs ≡ true → Contains (map name xs) y
+contains_from_any name [] y is = absurd cc
+contains_from_any name (x ∷ xs) y is = ⊎_elim
+    (λ here. Contains-append_left (name x ∷ []) (map name xs) y (Contains-same (name x) y ((bytes_eq-Decides (name x) y).0 here)))
+    (λ later. Contains-append_right (name x ∷ []) (map name xs) y (contains_from_any name xs y later))
+    (or_cases (bytes_eq (name x) y) (list_any (λ x. bytes_eq (name x) y) xs) is)
+  where
+    Contains-same : (x y : List ℕ) → x ≡ y → Contains (x ∷ []) y
+    Contains-same x y same = (0, omega arith, same)
+
+-- and only where it says so
+pub any_from_contains : {X : Type 0} (name : X → List ℕ) (xs : List X) (y : List ℕ) → Contains (map name xs) y → list_any (λ x. bytes_eq (name x) y) xs ≡ true
+any_from_contains name [] y has = absurd (contains_nothing y has)
+any_from_contains name (x ∷ xs) y has = ⊎_elim
+    (λ here. ⊎_elim
+    (λ none. absurd (contains_nothing y none))
+    (λ same. or_left (bytes_eq (name x) y) (list_any (λ x. bytes_eq (name x) y) xs) ((bytes_eq-Decides (name x) y).1 same))
+    (Contains-push_cases [] (name x) y here))
+    (λ later. or_right (bytes_eq (name x) y) (list_any (λ x. bytes_eq (name x) y) xs) (any_from_contains name xs y later))
+    (Contains-append_cases (name x ∷ []) (map name xs) y has)
+
+-- the answer of the test
+pub says_contains : {X : Type 0} (name : X → List ℕ) (xs : List X) (y : List ℕ) (r : Bool) → r ≡ list_any (λ x. bytes_eq (name x) y) xs
+    → (IsTrue r → Contains (map name xs) y) × (Contains (map name xs) y → IsTrue r)
+says_contains name xs y r is = (λ yes. contains_from_any name xs y (sym is ∙ yes), λ has. is ∙ any_from_contains name xs y has)
