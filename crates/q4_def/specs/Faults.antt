@@ -23,13 +23,17 @@ pub record IsRepeated (earlier : List Column) (text : List ℕ) : Type 0 where
   pub named : IsColumnName column.name
   pub repeated : Contains (map (λ c. c.name) earlier) column.name
 
--- Why the string is no column behind the earlier ones of its table: the name, else the kind, else a name that stands twice.
-abbrev pub ColumnFails : List Column → List ℕ → ℕ → ℕ → DefFault → Type 0
-ColumnFails earlier text i j (fault.BadName table column) = (table ≡ i) × (column ≡ j) × (IsColumnName (name_part text) → ⊥)
-ColumnFails earlier text i j (fault.BadKind table column) = (table ≡ i) × (column ≡ j) × IsColumnName (name_part text)
+-- Why the string, number j of table i, is no column: its name, else its kind.
+abbrev pub PartFails : List ℕ → ℕ → ℕ → DefFault → Type 0
+PartFails text i j (fault.BadName table column) = (table ≡ i) × (column ≡ j) × (IsColumnName (name_part text) → ⊥)
+PartFails text i j (fault.BadKind table column) = (table ≡ i) × (column ≡ j) × IsColumnName (name_part text)
     × ((kind : Kind) → text ≢ name_part text ++ 32 ∷ kind_word kind)
+PartFails text i j _ = ⊥
+
+-- Why it is none behind the earlier columns of its table: in itself, else a name that stands twice.
+abbrev pub ColumnFails : List Column → List ℕ → ℕ → ℕ → DefFault → Type 0
 ColumnFails earlier text i j (fault.Twice table column) = (table ≡ i) × (column ≡ j) × IsRepeated earlier text
-ColumnFails earlier text i j _ = ⊥
+ColumnFails earlier text i j why = PartFails text i j why
 
 -- the strings in front are columns, and the next is none
 pub record FirstColumnFails (texts : List (List ℕ)) (i : ℕ) (why : DefFault) : Type 0 where
@@ -56,9 +60,9 @@ HeadFails names name count i _ = ⊥
 
 -- Why the member, number i, is no table behind tables of these names.
 pub data TableFails (names : List (List ℕ)) (member : Data) (i : ℕ) (why : DefFault) : Type 0 where
-  shape : why ≡ fault.Shape i → ((name : List ℕ) (texts : List (List ℕ)) → IsTable member name texts → ⊥) → TableFails names member i why
-  head : (name : List ℕ) (texts : List (List ℕ)) → IsTable member name texts → HeadFails names name (length texts) i why → TableFails names member i why
-  columns : (name : List ℕ) (texts : List (List ℕ)) → IsTable member name texts → IsHead names name (length texts) → FirstColumnFails texts i why
+  bad_shape : why ≡ fault.Shape i → ((name : List ℕ) (texts : List (List ℕ)) → IsTable member name texts → ⊥) → TableFails names member i why
+  bad_head : (name : List ℕ) (texts : List (List ℕ)) → IsTable member name texts → HeadFails names name (length texts) i why → TableFails names member i why
+  bad_column : (name : List ℕ) (texts : List (List ℕ)) → IsTable member name texts → IsHead names name (length texts) → FirstColumnFails texts i why
       → TableFails names member i why
 
 -- the members in front define tables, and the next fails
@@ -79,7 +83,7 @@ pub data DocumentFails (bytes : List ℕ) (why : DefFault) : Type 0 where
       → DocumentFails bytes why
   too_many : (document : Members) (tables : List Data) → IsToml bytes document → HasTables document tables → why ≡ fault.Count 0 → 16 < length tables
       → DocumentFails bytes why
-  table : (document : Members) (tables : List Data) → IsToml bytes document → HasTables document tables → length tables ≤ 16 → FirstTableFails tables why
+  bad_table : (document : Members) (tables : List Data) → IsToml bytes document → HasTables document tables → length tables ≤ 16 → FirstTableFails tables why
       → DocumentFails bytes why
 
 -- Why a file has no definitions. One without any byte has.

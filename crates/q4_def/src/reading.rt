@@ -5,7 +5,7 @@ ghost use Rattle.toml.specs.View.{view, table_view};
 ghost use Rattle.q4_value.specs.Names.{IsColumnName, AreNamed};
 ghost use Rattle.q4_def.specs.Tables.{built_in as built_in_tables, IsTableDef, AreDistinct, names_of};
 ghost use Rattle.q4_def.specs.Document.{IsToml, Defines, Reads, column_text};
-ghost use Rattle.q4_def.specs.Faults.{OrMemory, ColumnFails, FirstColumnFails, IsHead, HeadFails, TableFails, FirstTableFails, ReadFails};
+ghost use Rattle.q4_def.specs.Faults.{OrMemory, PartFails, ColumnFails, FirstColumnFails, IsHead, HeadFails, TableFails, FirstTableFails, ReadFails};
 
 use crate::document::{entries_of, strings_of, tables_of};
 use crate::name::{is_column_name, is_name};
@@ -181,6 +181,19 @@ fn read_column(
     ensures cause { IfErr result (OrMemory (ColumnFails earlier.now text.now table (length earlier.now + 1))) }
 {
     let place = earlier.len() as u32 + 1;
+    let (name, kind) = split_column(text, table, place)?;
+    if has_column(earlier, name) {
+        return Err(DefFault::Twice(table, place));
+    }
+    Ok(new_column(alloc, name, kind)?)
+}
+
+// The name and the kind of a column, which has this place.
+fn split_column(text: &str, table: u32, place: u32) -> Result<(&str, Kind), DefFault>
+    ensures column { IfOk result (λ parts. text.now ≡ column_text (record { name = parts.0.now; kind = parts.1 })) }
+    ensures named { IfOk result (λ parts. IsColumnName parts.0.now) }
+    ensures cause { IfErr result (PartFails text.now table place) }
+{
     let (name, word) = match text.split_once(' ') {
         Some((name, word)) => (name, word),
         None => (text, ""),
@@ -188,13 +201,9 @@ fn read_column(
     if !is_column_name(name) {
         return Err(DefFault::BadName(table, place));
     }
-    let kind = match word {
-        "int" => Kind::Int,
-        "text" => Kind::Words,
-        _ => return Err(DefFault::BadKind(table, place)),
-    };
-    if has_column(earlier, name) {
-        return Err(DefFault::Twice(table, place));
+    match word {
+        "int" => Ok((name, Kind::Int)),
+        "text" => Ok((name, Kind::Words)),
+        _ => Err(DefFault::BadKind(table, place)),
     }
-    Ok(new_column(alloc, name, kind)?)
 }
