@@ -9,3 +9,6 @@ pub mod Marking
 pub mod Finish
 pub mod Meaning
 pub mod Showing
+pub mod Canonical
+pub mod Spelling
+pub mod Cutting
