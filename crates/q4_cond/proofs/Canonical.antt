@@ -1,5 +1,5 @@
 -- The tokens that a tree is shown by: they spell it, and none that spell it need fewer bytes.
-use Rattle.std.proofs.Common.{◌≡◌, ℕ, suc, ◌+◌, ◌<◌, ◌≤◌, List, [], ◌∷◌, ◌++◌, length, Bool, true, false, refl, sym, ap, ap₂, ◌∙◌, subst, cond, arith, append_assoc, append-nil, leb, le-leb, inl, inr}
+use Rattle.std.proofs.Common.{◌≡◌, ℕ, suc, ◌+◌, ◌<◌, ◌≤◌, List, [], ◌∷◌, ◌++◌, length, Bool, true, false, refl, sym, subst, cond, arith, append_assoc, append-nil, leb, le-leb, inl, inr}
 use Rattle.std.proofs.lemmas.Bool.{cond-true, cond-false, cases_lt, lt-leb}
 use Rattle.q4_cond.specs.declared.tree.Operator.{Operator}
 use Rattle.q4_cond.specs.declared.tree.Operator.TheVariants.{Or, And, Equal, Unequal, Below, AtMost, Above, AtLeast, Add, Subtract, Multiply, Divide, Remainder}
@@ -181,7 +181,7 @@ module _ (names : List (List ℕ)) where
   cost-append p [] t b q = refl
   cost-append p (s ∷ a) t b q = omega (arith, cost-append (is_word s) a t b q)
 
-  gap_none : (p : Bool) → gap p false ≡ 0
+  pub gap_none : (p : Bool) → gap p false ≡ 0
   gap_none true = refl
   gap_none false = refl
 
@@ -232,7 +232,6 @@ module _ (names : List (List ℕ)) where
       subst (λ x. NoDearer x (left ++ Sign op ∷ right)) (sym (placed_bare (level_of op) (level_of op) (canonical (Two op t u)) (omega arith)))
       (two_cost op (canonical_at (left_level op) t) (canonical_at (right_level op) u) left right (cost_least f) (cost_least g))
   cost_least (looser {n} {l} {ts} {t} f) = looser_cost l (tree_level t) (canonical t) ts (cost_least f)
-
 
 -- what may follow, where an operand is wanted and where one stands
 abbrev pub TakesTurns : Bool → List Token → Type 0

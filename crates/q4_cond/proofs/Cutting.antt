@@ -1,5 +1,5 @@
 -- The text of tokens that take turns is cut into these tokens.
-use Rattle.std.proofs.Common.{◌≡◌, ℕ, zero, suc, ◌+◌, ◌-◌, ◌^◌, ◌<◌, ◌≤◌, List, [], ◌∷◌, ◌++◌, length, get_or, drop, Bool, true, false, ◌&&◌, Some, refl, sym, ap, ap₂, ◌∙◌, subst, cond, arith, append_assoc, leb, ltb, eqb, lt-ltb, leb-true, length-append, pos, inl, inr}
+use Rattle.std.proofs.Common.{◌≡◌, ℕ, suc, ◌+◌, ◌^◌, ◌<◌, ◌≤◌, List, [], ◌∷◌, ◌++◌, length, get_or, drop, Bool, true, false, ◌&&◌, Some, refl, sym, ap, ap₂, ◌∙◌, subst, arith, leb, ltb, eqb, lt-ltb, leb-true, length-append, pos, inl, inr}
 use Rattle.std.specs.Fmt.{decimal}
 use Rattle.std.proofs.lemmas.Bool.{cond-true, cond-false, cases_Bool, and_left, and_right, and_parts, eqb-true, lt-leb, ne_eqb, le-ltb}
 use Rattle.std.proofs.lemmas.List.{get_or_append_left, drop_at}
@@ -9,11 +9,11 @@ use Rattle.q4_cond.specs.declared.tree.Atom.TheVariants.{Column as named, Number
 use Rattle.q4_cond.specs.declared.tree.Front.{Front}
 use Rattle.q4_cond.specs.declared.tree.Token.{Token}
 use Rattle.q4_cond.specs.declared.tree.Token.TheVariants.{Operand, Sign, Not, Open, Close, Bad}
-use Rattle.q4_cond.specs.Tokens.{is_letter, is_digit, is_word_byte, word_run, word_token, number_token, numeral, digits_from, Quoted, quoted, longer, with_byte, run_front, text_front, one_byte, front_of, Placed, tokens_from, bare}
+use Rattle.q4_cond.specs.Tokens.{is_letter, is_digit, is_word_byte, word_run, word_token, number_token, numeral, quoted, longer, with_byte, run_front, text_front, one_byte, front_of, tokens_from, bare}
 use Rattle.q4_cond.specs.Shown.{doubled, name_text, sign_text}
 use Rattle.q4_cond.proofs.Scanning.{space_first, token_first}
 use Rattle.q4_cond.proofs.Canonical.{is_word, sign_is_word, token_text, TakesTurns}
-use Rattle.q4_cond.proofs.Spelling.{AllWordBytes, IsDigits, decimal_digits, IsName, IsToken, AreTokens, token_ends, spaces, written, number_text}
+use Rattle.q4_cond.proofs.Spelling.{AllWordBytes, IsDigits, decimal_digits, IsToken, AreTokens, token_ends, spaces, written, number_text}
 
 -- a run of words ends where no byte of words follows
 run_ends : (bs : List ℕ) → is_word_byte (get_or bs 0 0) ≡ false → word_run bs ≡ []

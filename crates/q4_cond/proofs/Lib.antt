@@ -12,3 +12,5 @@ pub mod Showing
 pub mod Canonical
 pub mod Spelling
 pub mod Cutting
+pub mod Measuring
+pub mod Rereading

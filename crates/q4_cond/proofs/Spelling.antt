@@ -1,9 +1,9 @@
 -- The text of tokens, with a space between two words or numbers. A tree's text is that of its own tokens.
-use Rattle.std.proofs.Common.{◌≡◌, ℕ, zero, suc, ◌+◌, ◌-◌, ◌*◌, ◌^◌, ◌/◌, ◌%◌, ◌<◌, ◌≤◌, List, [], ◌∷◌, ◌++◌, length, get_or, Bool, true, false, ◌&&◌, ◌||◌, Option, Some, None, refl, sym, ap, ap₂, ◌∙◌, subst, cond, arith, append_assoc, append-nil, leb, le-leb, ltb, length-append, pos}
+use Rattle.std.proofs.Common.{◌≡◌, ℕ, zero, suc, ◌+◌, ◌-◌, ◌*◌, ◌^◌, ◌/◌, ◌%◌, ◌<◌, ◌≤◌, List, [], ◌∷◌, ◌++◌, length, get_or, Bool, true, false, ◌&&◌, Some, refl, sym, ap, ap₂, ◌∙◌, subst, cond, arith, append_assoc, append-nil, leb, le-leb, ltb, length-append, pos}
 use Rattle.std.specs.Prelude.{slice_get}
 use Rattle.std.specs.Str.{IsUtf8, IsAscii}
 use Rattle.std.specs.Fmt.{decimal}
-use Rattle.std.proofs.lemmas.Bool.{cond-true, cond-false, and_from, and_parts, or_right, or_left, ltb-true}
+use Rattle.std.proofs.lemmas.Bool.{cond-true, and_from, and_parts, or_right, or_left, ltb-true}
 use Rattle.std.proofs.lemmas.List.{get_or_append_left, get_or-append-add}
 use Rattle.std.proofs.lemmas.Fmt.{decimal_by_steps_wide, IsAscii-decimal_wide}
 use Rattle.std.proofs.lemmas.Str.{IsUtf8-append, IsUtf8-from_ascii, IsUtf8-nil}
@@ -14,12 +14,12 @@ use Rattle.q4_cond.specs.declared.tree.Atom.{Atom}
 use Rattle.q4_cond.specs.declared.tree.Atom.TheVariants.{Column as named, Number, Text}
 use Rattle.q4_cond.specs.declared.tree.Token.{Token}
 use Rattle.q4_cond.specs.declared.tree.Token.TheVariants.{Operand, Sign, Not, Open, Close, Bad}
-use Rattle.q4_cond.specs.Tree.{Tree, Simple, Two, NotOf, MinusOf, level_of, left_level, right_level}
+use Rattle.q4_cond.specs.Tree.{Tree, Simple, Two, NotOf, MinusOf, left_level, right_level}
 use Rattle.q4_cond.specs.Grammar.{Phrase, atom, group, minus, inverse, both, looser}
 use Rattle.q4_cond.specs.Tokens.{is_letter, is_digit, is_word_byte, word_token, digits_from}
 use Rattle.q4_cond.specs.Shown.{doubled, atom_text, name_text, sign_text, spaced, wrapped, shown}
 use Rattle.q4_cond.proofs.Sound.{cond_opened}
-use Rattle.q4_cond.proofs.Canonical.{tree_level, in_group, placed_at, canonical, canonical_at, is_word, sign_is_word, token_text, gap, cost}
+use Rattle.q4_cond.proofs.Canonical.{tree_level, in_group, canonical, canonical_at, is_word, sign_is_word, token_text, gap, cost}
 
 abbrev pub AllWordBytes : List ℕ → Type 0
 AllWordBytes [] = Unit {0}
@@ -59,7 +59,7 @@ pub record IsDigits (n : ℕ) (ds : List ℕ) : Type 0 where
 digit_is : (d : ℕ) → d < 10 → is_digit (48 + d) ≡ true
 digit_is d h = and_from _ _ (le-leb 48 (48 + d) (omega arith)) (le-leb (48 + d) 57 (omega arith))
 
-digit_word : (b : ℕ) → is_digit b ≡ true → is_word_byte b ≡ true
+pub digit_word : (b : ℕ) → is_digit b ≡ true → is_word_byte b ≡ true
 digit_word b h = or_right _ _ (or_left _ _ h)
 
 digits_push : (m n d : ℕ) (ds : List ℕ) → digits_from m ds ≡ Some n → is_digit d ≡ true → digits_from m (ds ++ d ∷ []) ≡ Some (10 * n + (d - 48))
@@ -315,18 +315,18 @@ module _ (names : List (List ℕ)) where
   tokens_right [] b h = h
   tokens_right (t ∷ a) b h = tokens_right a b h.1
 
-  placed_tokens : (l k : ℕ) (ts : List Token) (b : Bool) → AreTokens names ts → AreTokens names (cond b ts (in_group ts))
-  placed_tokens l k ts true h = h
-  placed_tokens l k ts false h = (tt, tokens_both ts (Close ∷ []) h (tt, tt))
+  placed_tokens : (b : Bool) (ts : List Token) → AreTokens names ts → AreTokens names (cond b ts (in_group ts))
+  placed_tokens true ts h = h
+  placed_tokens false ts h = (tt, tokens_both ts (Close ∷ []) h (tt, tt))
 
   pub canonical_tokens : (t : Tree) → LeavesAre t → AreTokens names (canonical t)
   canonical_tokens (Simple a) h = (h, tt)
   canonical_tokens (Two op t u) h =
       tokens_both (canonical_at (left_level op) t) (Sign op ∷ canonical_at (right_level op) u)
-      (placed_tokens (left_level op) (tree_level t) (canonical t) (leb (left_level op) (tree_level t)) (canonical_tokens t h.0))
-      (tt, placed_tokens (right_level op) (tree_level u) (canonical u) (leb (right_level op) (tree_level u)) (canonical_tokens u h.1))
-  canonical_tokens (NotOf t) h = (tt, placed_tokens 3 (tree_level t) (canonical t) (leb 3 (tree_level t)) (canonical_tokens t h))
-  canonical_tokens (MinusOf t) h = (tt, placed_tokens 7 (tree_level t) (canonical t) (leb 7 (tree_level t)) (canonical_tokens t h))
+      (placed_tokens (leb (left_level op) (tree_level t)) (canonical t) (canonical_tokens t h.0))
+      (tt, placed_tokens (leb (right_level op) (tree_level u)) (canonical u) (canonical_tokens u h.1))
+  canonical_tokens (NotOf t) h = (tt, placed_tokens (leb 3 (tree_level t)) (canonical t) (canonical_tokens t h))
+  canonical_tokens (MinusOf t) h = (tt, placed_tokens (leb 7 (tree_level t)) (canonical t) (canonical_tokens t h))
 
   -- a tree's leaves are tokens of every text that spells it
   pub phrase_leaves : {n l : ℕ} {ts : List Token} {t : Tree} → Phrase n l ts t → AreTokens names ts → LeavesAre t
@@ -350,7 +350,7 @@ module _ (names : List (List ℕ)) where
       ∙ sym (written_cond (leb l (tree_level t)) (canonical t) (in_group (canonical t))))
 
   at_tokens : (l : ℕ) (t : Tree) → LeavesAre t → AreTokens names (canonical_at l t)
-  at_tokens l t h = placed_tokens l (tree_level t) (canonical t) (leb l (tree_level t)) (canonical_tokens t h)
+  at_tokens l t h = placed_tokens (leb l (tree_level t)) (canonical t) (canonical_tokens t h)
 
   sign_written : (op : Operator) → sign_text op ≡ written false (Sign op ∷ [])
   sign_written op = sym (ap (λ l. l ++ (sign_text op ++ [])) (spaces_before (sign_is_word op)) ∙ append-nil (sign_text op))

@@ -7,7 +7,6 @@ mod frames;
 mod kinds;
 mod laws;
 mod reader;
-mod same;
 mod scan;
 mod token;
 mod tree;

@@ -1,4 +1,3 @@
-use Rattle.q4_cond.proofs.Cutting.{cut_written}
 use Rattle.q4_cond.proofs.Verdicts.{one_tree}
 use Rattle.q4_cond.proofs.laws.one_tree.Goals as goal
 
