@@ -14,3 +14,4 @@ pub mod Spelling
 pub mod Cutting
 pub mod Measuring
 pub mod Rereading
+pub mod Uniqueness
