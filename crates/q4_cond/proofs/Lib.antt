@@ -9,3 +9,9 @@ pub mod Marking
 pub mod Finish
 pub mod Meaning
 pub mod Showing
+pub mod Canonical
+pub mod Spelling
+pub mod Cutting
+pub mod Measuring
+pub mod Rereading
+pub mod Uniqueness

@@ -18,14 +18,14 @@ use Rattle.q4_cond.proofs.Steps.{run_then, run_step}
 use Rattle.q4_cond.proofs.Sound.{run_begins}
 use Rattle.q4_cond.proofs.Verdicts.{refused_within, refused_all, taken_begins}
 
-tokens_skip : (names : List (List ℕ)) (k p : ℕ) (s : List ℕ) → tokens_from names k p s ≡ tokens_from names 0 (p + k) (drop k s)
+pub tokens_skip : (names : List (List ℕ)) (k p : ℕ) (s : List ℕ) → tokens_from names k p s ≡ tokens_from names 0 (p + k) (drop k s)
 tokens_skip names zero p s = let e : p ≡ p + 0 = omega arith in ap (λ q. tokens_from names 0 q s) e
 tokens_skip names (suc k) p [] = refl
 tokens_skip names (suc k) p (b ∷ s) =
     let e : suc p + k ≡ p + suc k = omega arith in
     tokens_skip names k (suc p) s ∙ ap (λ q. tokens_from names 0 q (drop k s)) e
 
-space_first : (names : List (List ℕ)) (p b : ℕ) (s : List ℕ) → b ≡ 32 → tokens_from names 0 p (b ∷ s) ≡ tokens_from names 0 (p + 1) s
+pub space_first : (names : List (List ℕ)) (p b : ℕ) (s : List ℕ) → b ≡ 32 → tokens_from names 0 p (b ∷ s) ≡ tokens_from names 0 (p + 1) s
 space_first names p b s e =
     ap₂ (λ h k. h ++ tokens_from names k (suc p) s) (cond-true (eqb b 32) [] _ (eq-eqb b 32 e)) (cond-true (eqb b 32) 0 _ (eq-eqb b 32 e))
     ∙ ap (λ q. tokens_from names 0 q s) (sym (rw add-one refl))
@@ -37,7 +37,7 @@ skipped names p b s (suc n) some =
     let f : suc n - 1 ≡ n = omega arith in
     ap₂ (λ q k. tokens_from names 0 q (drop k s)) e f
 
-token_first : (names : List (List ℕ)) (p b : ℕ) (s : List ℕ) (f : Front) → (b ≡ 32 → ⊥) → f ≡ front_of names (b ∷ s) → 0 < f.size → tokens_from names 0 p (b ∷ s) ≡ record { place = p; token = f.token } ∷ tokens_from names 0 (p + f.size) (drop f.size (b ∷ s))
+pub token_first : (names : List (List ℕ)) (p b : ℕ) (s : List ℕ) (f : Front) → (b ≡ 32 → ⊥) → f ≡ front_of names (b ∷ s) → 0 < f.size → tokens_from names 0 p (b ∷ s) ≡ record { place = p; token = f.token } ∷ tokens_from names 0 (p + f.size) (drop f.size (b ∷ s))
 token_first names p b s f ne e some =
     let head : token_here names p (b ∷ s) ≡ record { place = p; token = f.token } ∷ [] =
     cond-false (eqb b 32) [] _ (ne_eqb b 32 ne) ∙ ap (λ g. record { place = p; token = g.token } ∷ []) (sym e) in

@@ -1,5 +1,8 @@
 -- Nodes in order write the text of their tree.
-use Rattle.std.proofs.Common.{◌≡◌, ℕ, List, [], ◌∷◌, map, refl, ap, ◌∙◌}
+use Rattle.std.proofs.Common.{◌≡◌, ℕ, List, [], ◌∷◌, map, refl, sym, ap, ◌∙◌, subst}
+use Rattle.std.specs.Prelude.{IfOk, Ok, Err}
+use Rattle.std.specs.declared.result.Result.{Result}
+use Rattle.q4_value.specs.declared.NoMemory.{NoMemory}
 use Rattle.q4_cond.specs.declared.tree.Node.{Node}
 use Rattle.q4_cond.specs.declared.tree.Node.TheVariants.{Leaf, Binary, Inverted, Negated}
 use Rattle.q4_cond.specs.Tree.{Tree}
@@ -27,3 +30,8 @@ module _ (names : List (List ℕ)) where
 
   pub first_text-nodes : (ns : List Node) → first_text (write_nodes names ns []) ≡ condition_text names (tree_of ns)
   first_text-nodes ns = ap first_text (write_nodes-build ns []) ∙ first_shown (build ns [])
+
+-- what holds of a list holds of words that are it
+pub of_words : (P : List ℕ → Type 0) (x : List ℕ) (r : Result (List ℕ) NoMemory) → P x → IfOk r (λ words. words ≡ x) → IfOk r P
+of_words P x (Ok words) h e = subst P (sym e) h
+of_words P x (Err m) h e = tt

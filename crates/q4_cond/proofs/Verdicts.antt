@@ -106,7 +106,7 @@ not_empty (t ∷ ts) tok rest e = cc
 empty_list : (n : ℕ) (ts : List Token) → IsCondition n ts None → ts ≡ []
 empty_list n _ nothing = refl
 
-condition_phrase : {n : ℕ} {ts : List Token} {t : Tree} → IsCondition n ts (Some t) → Phrase n 1 ts t
+pub condition_phrase : {n : ℕ} {ts : List Token} {t : Tree} → IsCondition n ts (Some t) → Phrase n 1 ts t
 condition_phrase (whole p) = p
 
 refused_phrase : (n m : ℕ) (ts : List Token) (tok : Token) (s : State) → run n (Wants [] []) ts ≡ Some s → step m s tok ≡ None → (rest : List Token) (t : Tree) → Phrase m 1 ((ts ++ tok ∷ []) ++ rest) t → ⊥

@@ -1,7 +1,5 @@
-ghost use Rattle.std.specs.Bool.{OnTrue};
-ghost use Rattle.std.specs.Prelude.{◌≡◌, ◌≤◌, length, IfOk, MatchResult};
-ghost use Rattle.q4_cond.specs.Condition.{ReadsAs};
-ghost use Rattle.q4_cond.specs.Postfix.{tree_of};
+ghost use Rattle.std.specs.Prelude.{◌≡◌, ◌≤◌, ℕ, List, length, IfOk, MatchResult};
+ghost use Rattle.q4_cond.specs.Condition.{ReadsAs, IsShowable};
 ghost use Rattle.q4_cond.specs.Reading.{kinds_of, IsRead, IsFault};
 ghost use Rattle.q4_cond.specs.Values.{meets};
 ghost use Rattle.q4_cond.specs.Tokens.{names_of};
@@ -9,7 +7,6 @@ ghost use Rattle.q4_cond.specs.Shown.{condition_text};
 
 use crate::CondFault;
 use crate::kinds::first_misplaced;
-use crate::same::same_nodes;
 use crate::scan::scan_text;
 use crate::tree::{Atom, Node};
 use crate::value::execute;
@@ -21,20 +18,17 @@ use std::marker::Model;
 /// The most bytes that a condition's text may have.
 const LONGEST: usize = 1024;
 
-/// A condition on the rows of a table. A contract sees its tree, the kinds of its columns, and the length of the
-/// text that it was read from.
+/// A condition on the rows of a table. A contract sees its tree and the kinds of its columns.
 #[derive(Drop)]
 pub struct Cond {
     /// The tree in postfix order; none for the empty condition.
     nodes: Vec<Node>,
     kinds: Vec<Kind>,
-    /// How many bytes the text had.
-    text_len: usize,
 }
 
 impl Model for Cond {
     ghost use Rattle.std.specs.Prelude.{◌≡◌, ◌≤◌, length};
-    ghost use Rattle.std.specs.Coded.{coded×, coded_list, coded_ℕ};
+    ghost use Rattle.std.specs.Coded.{coded×, coded_list};
     ghost use Rattle.q4_cond.specs.Condition.{Condition, condition_code};
     ghost use Rattle.q4_cond.specs.Postfix.{tree_of, nodes_of};
     ghost use Rattle.q4_cond.specs.contracts.tree.Node as node;
@@ -42,9 +36,9 @@ impl Model for Cond {
 
     ghost Value = { Condition };
 
-    ghost coded = { condition_code (coded× (coded_list node.the_row.coded) (coded× (coded_list kind.the_row.coded) coded_ℕ)) };
+    ghost coded = { condition_code (coded× (coded_list node.the_row.coded) (coded_list kind.the_row.coded)) };
 
-    ghost view = { λ c. record { tree = tree_of c.nodes.items; kinds = c.kinds.items; text_len = c.text_len } };
+    ghost view = { λ c. record { tree = tree_of c.nodes.items; kinds = c.kinds.items } };
 
     ghost invariant = { λ c. (nodes_of (tree_of c.nodes.items) ≡ c.nodes.items) × (length c.nodes.items ≤ 1024) };
 }
@@ -122,11 +116,7 @@ impl Cond {
     {
         let nodes = copy_nodes(alloc, &self.nodes)?;
         let kinds = copy_kinds(alloc, &self.kinds)?;
-        Ok(Cond {
-            nodes,
-            kinds,
-            text_len: self.text_len,
-        })
+        Ok(Cond { nodes, kinds })
     }
 }
 
@@ -152,11 +142,7 @@ pub fn read(alloc: Global, text: &str, columns: &[Column]) -> Result<Cond, CondF
     if let Some(place) = first_misplaced(&kinds, &nodes, &atoms) {
         return Err(CondFault::Kinds(place));
     }
-    Ok(Cond {
-        nodes,
-        kinds,
-        text_len: bytes.len(),
-    })
+    Ok(Cond { nodes, kinds })
 }
 
 /// Whether the row meets the condition: its value is present and not 0. It takes no memory, and looks at each part
@@ -174,31 +160,18 @@ pub fn met(cond: &Cond, row: &Row) -> bool
     }
 }
 
-/// Whether the text reads as these nodes.
-fn reads_back(alloc: Global, nodes: &[Node], text: &str, columns: &[Column]) -> bool
-    ensures { OnTrue result (IsRead columns.now text.now (tree_of nodes.now)) }
-{
-    match read(alloc, text, columns) {
-        Ok(again) => same_nodes(&again.nodes, nodes),
-        Err(_) => false,
-    }
-}
-
 /// The text of a condition on these columns, which are those that it was read with: parentheses stand only where
-/// the grammar needs them, and one space stands between two words or numbers. What was written is read again before
-/// it is handed out, so that on other columns than those of the reading nothing else is shown: there it may answer
-/// want of memory.
+/// the grammar needs them, and one space stands between two words or numbers. It reads as the same tree, and no
+/// text that does is shorter.
 pub fn show(alloc: Global, cond: &Cond, columns: &[Column]) -> Result<Words, NoMemory>
+    requires { IsShowable columns.now cond.now.tree }
     ensures text { IfOk result (λ words. words ≡ condition_text (names_of columns.now) cond.now.tree) }
     ensures reads_back { IfOk result (λ words. IsRead columns.now words cond.now.tree) }
-    ensures no_longer { IfOk result (λ words. length words ≤ cond.now.text_len) }
+    ensures no_longer { IfOk result (λ words. (text : List ℕ) → IsRead columns.now text cond.now.tree → length words ≤ length text) }
 {
     let bytes = write_nodes(alloc, &cond.nodes, columns)?;
     let Ok(text) = std::str::from_utf8(bytes.as_slice()) else {
-        return Err(NoMemory);
+        unreachable!()
     };
-    if text.len() > cond.text_len || !reads_back(alloc, &cond.nodes, text, columns) {
-        return Err(NoMemory);
-    }
     Words::new(alloc, text)
 }

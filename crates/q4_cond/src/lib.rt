@@ -7,7 +7,6 @@ mod frames;
 mod kinds;
 mod laws;
 mod reader;
-mod same;
 mod scan;
 mod token;
 mod tree;
@@ -16,7 +15,7 @@ mod writing;
 
 pub use cond::{Cond, met, read, show};
 pub use fault::CondFault;
-pub use laws::one_tree;
+pub use laws::{one_answer, one_tree};
 
 #[cfg(test)]
 mod tests;

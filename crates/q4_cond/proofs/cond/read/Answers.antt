@@ -42,5 +42,4 @@ returns c =
       tree = subst (λ t. IsRead c.args.columns.now t (tree_of c.in-Some.nodes.items)) c.as_bytes-bytes.ensures.value
           (read_ok c.args.columns.now bytes _ _ _ c.in-Some.nodes.items c.in_ok-kinds.kinds.items c.first_misplaced.result short c.in_ok-scan.ensures.scanned (rw c.in-Some.is at c.in_ok-nodes.ensures) c.in_default-unknown.is c.in_ok-kinds.ensures o c.in_default-first_misplaced.is);
       kinds = c.in_ok-kinds.ensures;
-      text_len = c.as_bytes-bytes.ensures.len;
     }
