@@ -14,3 +14,6 @@ pub use marks::Mark;
 pub use origin::{Mode, Origin};
 pub use rows::StoredRow;
 pub use table::{Table, tables_are_valid};
+
+#[cfg(test)]
+mod tests;
