@@ -49,7 +49,7 @@ numbers_of rows = map (λ r. r.number) rows
 
 -- the least row number that is at least this one
 abbrev pub least_from : List StoredRow → ℕ → Option ℕ
-least_from rows number = least (filter (λ n. nat_le number n) (numbers_of rows))
+least_from rows number = least (numbers_of (filter (λ r. nat_le number r.number) rows))
 
 -- the sum of the rows' sizes
 abbrev pub bytes_of : List StoredRow → ℕ

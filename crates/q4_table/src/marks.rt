@@ -1,4 +1,5 @@
-ghost use Rattle.std.specs.Prelude.{◌≡◌, [], IfOk, OnOk, OnErr};
+ghost use Rattle.std.specs.Prelude.{◌≡◌, ◌==◌, [], find, IfOk, OnOk, OnErr};
+ghost use Rattle.std.specs.Option.{option_map};
 ghost use Rattle.q4_table.specs.Marks.{mark_of, with_mark};
 ghost use Rattle.q4_table.specs.Valid.{IsMark};
 ghost use Rattle.q4_table.specs.Place.{IsPlace};
@@ -53,10 +54,7 @@ impl Marks {
     pub fn of(&self, source: u8) -> u64
         ensures { result ≡ mark_of self.now source }
     {
-        match self.marks.iter().find(|mark| mark.source == source) {
-            Some(mark) => mark.number,
-            None => 0,
-        }
+        number_of(&self.marks, source).unwrap_or(0)
     }
 
     /// Sets the mark of a source. A refusal leaves the marks.
@@ -86,4 +84,12 @@ impl Marks {
             Err(_) => Err(NoMemory),
         }
     }
+}
+
+// The number of the first mark of the source, if there is one.
+fn number_of(marks: &[Mark], source: u8) -> Option<u64>
+    ensures { result ≡ option_map (λ m. m.number) (find (λ m. m.source == source) marks.now) }
+{
+    let mark = marks.iter().find(|mark| mark.source == source)?;
+    Some(mark.number)
 }

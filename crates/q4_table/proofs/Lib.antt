@@ -1,0 +1,5 @@
+pub mod Lookup
+pub mod Rising
+pub mod Places
+pub mod Changes
+pub mod Marking
