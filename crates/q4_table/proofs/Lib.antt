@@ -3,3 +3,4 @@ pub mod Rising
 pub mod Places
 pub mod Changes
 pub mod Marking
+pub mod Validity

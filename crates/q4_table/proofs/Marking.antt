@@ -1,6 +1,7 @@
 -- Marks by rising source, and what setting one does.
 use Rattle.std.proofs.Common.{◌≡◌, ◌≢◌, ◌<◌, ◌≤◌, ◌∷◌, ◌++◌, ◌∙◌, [], List, ℕ, zero, suc, Bool, true, false, cond, All, filter, length, set, get_or, refl, sym, ap, arith}
 use Rattle.std.specs.List.{insert}
+use Rattle.std.specs.Prelude.{Result, Ok, Err, OnOk, OnErr, is_err}
 use Rattle.std.specs.List.Sorted.{IsNonDecreasingBy}
 use Rattle.std.specs.Prelude.{nat_lt}
 use Rattle.std.proofs.lemmas.Bool.{lt-ltb, le-ltb, ltb-true}
@@ -112,3 +113,16 @@ marks-with s n marks one all = record {
   each = All-append IsMark (filter (lesser s) marks) (mark s n ∷ filter (greater s) marks) (All-filter (lesser s) IsMark marks all.each)
     (All-cons IsMark (mark s n) (filter (greater s) marks) one (All-filter (greater s) IsMark marks all.each));
 }
+
+-- by what a call answered
+pub by_result : {A B P Q : Type 0} (r : Result A B) (R : Type 0) → OnOk r P → OnErr r Q → (P → R) → (Q → R) → R
+by_result (Ok x) R ok err set kept = set ok
+by_result (Err e) R ok err set kept = kept err
+
+pub on_err : {A B P : Type 0} (r : Result A B) → is_err r ≡ true → OnErr r P → P
+on_err (Ok x) is p = cc is
+on_err (Err e) is p = p
+
+pub on_ok : {A B P : Type 0} (r : Result A B) → is_err r ≡ false → OnOk r P → P
+on_ok (Ok x) is p = p
+on_ok (Err e) is p = cc is

@@ -11,7 +11,7 @@ use Rattle.q4_table.specs.Valid.{RiseBelow}
 use Rattle.q4_table.proofs.Lookup.{found, some_of}
 use Rattle.q4_table.proofs.Rising.{none_below, least_found}
 
-none_some : {X : Type 0} (y : X) → None ≡ Some y → ⊥
+pub none_some : {X : Type 0} (y : X) → None ≡ Some y → ⊥
 none_some y is = cc is
 
 -- Behind an element the place is one less.
@@ -65,7 +65,7 @@ map_at key f low next k (suc i) (x ∷ xs) y others rise at there =
     let small : key x < k = place_later key x xs k i at in
     ap (λ z. z ∷ map f xs) (others x (λ is. omega (arith, is, small))) ∙ ap (λ zs. x ∷ zs) (map_at key f (key x) next k i xs y others rise.2 (place_tail key x xs k i at) there)
 
-without_above : {X : Type 0} (key : X → ℕ) (low next k : ℕ) (xs : List X) → k ≤ low → RiseBelow low next (map key xs) → filter (λ x. not (key x == k)) xs ≡ xs
+pub without_above : {X : Type 0} (key : X → ℕ) (low next k : ℕ) (xs : List X) → k ≤ low → RiseBelow low next (map key xs) → filter (λ x. not (key x == k)) xs ≡ xs
 without_above key low next k [] small rise = refl
 without_above key low next k (x ∷ xs) small rise =
     let differs : (key x == k) ≡ false = ne_eqb (key x) k (λ is. omega (arith, is, rise.0, small)) in

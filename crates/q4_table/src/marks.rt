@@ -1,9 +1,11 @@
 ghost use Rattle.std.specs.Prelude.{◌≡◌, ◌==◌, [], find, IfOk, OnOk, OnErr};
-ghost use Rattle.std.specs.Option.{option_map};
+ghost use Rattle.std.specs.Option.{ForSome, option_map};
+ghost use Rattle.q4_table.specs.Adding.{IsOrigin, with_origin};
 ghost use Rattle.q4_table.specs.Marks.{mark_of, with_mark};
 ghost use Rattle.q4_table.specs.Valid.{IsMark};
 ghost use Rattle.q4_table.specs.Place.{IsPlace};
 
+use crate::Origin;
 use q4_value::NoMemory;
 use std::alloc::Global;
 use std::marker::Model;
@@ -71,6 +73,21 @@ impl Marks {
         match self.marks.insert(place, mark) {
             Ok(()) => Ok(()),
             Err(_) => Err(NoMemory),
+        }
+    }
+
+    /// Notes the origin of a row, whose number becomes the mark of its source. A refusal leaves the marks.
+    pub fn note(&mut self, origin: Option<Origin>) -> Result<(), NoMemory>
+        requires { ForSome origin IsOrigin }
+        ensures noted { OnOk result (self.new ≡ with_origin origin self.old) }
+        ensures kept { OnErr result (self.new ≡ self.old) }
+    {
+        match origin {
+            Some(origin) => self.set(Mark {
+                source: origin.source,
+                number: origin.number,
+            }),
+            None => Ok(()),
         }
     }
 
