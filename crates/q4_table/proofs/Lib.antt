@@ -4,3 +4,4 @@ pub mod Places
 pub mod Changes
 pub mod Marking
 pub mod Validity
+pub mod Looks
