@@ -1,0 +1,29 @@
+-- Which row a look takes of a table.
+use Rattle.std.specs.Prelude.{◌≡◌, ◌≤◌, ◌&&◌, ℕ, Bool, List, Option, None, Some, IsSomeAnd, IsTrue, All, filter, is_none}
+use Rattle.q4_cond.specs.Tree.{Tree}
+use Rattle.q4_cond.specs.Values.{meets}
+use Rattle.q4_table.specs.declared.rows.StoredRow.{StoredRow}
+use Rattle.q4_table.specs.Rows.{row_in, least, numbers_of}
+
+-- nobody owns the row, and it meets the condition
+abbrev pub is_free : Option Tree → StoredRow → Bool
+is_free tree r = is_none r.owner && meets r.row tree
+
+-- the oldest row that nobody owns and that meets the condition is the one with the least number
+abbrev pub oldest_meeting : List StoredRow → Option Tree → Option ℕ
+oldest_meeting rows tree = least (numbers_of (filter (is_free tree) rows))
+
+-- Nobody owns the row, and it meets the condition.
+pub record IsFree (tree : Option Tree) (r : StoredRow) : Type 0 where
+  pub unowned : r.owner ≡ None
+  pub meets_it : IsTrue (meets r.row tree)
+
+-- The row with this number is there, free, and no other free row has a lesser number.
+pub record IsOldest (rows : List StoredRow) (tree : Option Tree) (number : ℕ) : Type 0 where
+  pub free : IsSomeAnd (row_in rows number) (IsFree tree)
+  pub least_number : All (λ r. IsFree tree r → number ≤ r.number) rows
+
+-- What a look takes: the oldest free row, and none only where no row is free.
+abbrev pub TakesOldest : List StoredRow → Option Tree → Option ℕ → Type 0
+TakesOldest rows tree (Some number) = IsOldest rows tree number
+TakesOldest rows tree None = All (λ r. IsFree tree r → ⊥) rows
