@@ -1,5 +1,5 @@
 -- Each call of a desk in memory: the desk afterwards, and the part that the call added.
-use Rattle.std.proofs.Common.{◌≡◌, ◌≤◌, ◌++◌, ◌∷◌, ◌∙◌, [], List, ℕ, true, false, Option, Some, None, Result, Ok, Err, OnErr, All, length, unwrap_or, refl, sym, ap, subst, arith, append_assoc}
+use Rattle.std.proofs.Common.{◌≡◌, ◌≤◌, ◌++◌, ◌∷◌, ◌∙◌, [], List, ℕ, true, false, Option, Some, None, Result, Ok, Err, OnErr, All, length, unwrap_or, refl, sym, ap, subst, arith, append_assoc, append-nil}
 use Rattle.std.proofs.lemmas.List.{length-append}
 use Rattle.std.proofs.lemmas.List.Elements.{All-nil, All-cons}
 use Rattle.q4_value.specs.declared.row.Value.{Value}
@@ -7,21 +7,26 @@ use Rattle.q4_machine.specs.declared.entry.Entry.{Entry}
 use Rattle.q4_machine.specs.declared.entry.Call.{Call}
 use Rattle.q4_machine.specs.declared.entry.Call.TheVariants.{Open, Insert, Look, End, Close, Sync}
 use Rattle.q4_machine.specs.declared.entry.Refusal.{Refusal}
-use Rattle.q4_machine.specs.declared.entry.Refusal.TheVariants.{NotOwner}
+use Rattle.q4_machine.specs.declared.entry.Refusal.TheVariants as refusal
 use Rattle.q4_machine.specs.declared.entry.Reply.{Reply}
 use Rattle.q4_machine.specs.declared.entry.Reply.TheVariants as reply
 use Rattle.q4_machine.specs.declared.session.SessionMode.{SessionMode}
 use Rattle.q4_machine.specs.declared.session.SessionMode.TheVariants.{NonOwner, Empty, Owner}
 use Rattle.q4_machine.specs.Machine.{mode_of}
-use Rattle.q4_machine.specs.declared.table.Added.{Added}
-use Rattle.q4_machine.specs.declared.table.Added.TheVariants.{New}
+use Rattle.q4_def.specs.declared.table_def.TableDef.{TableDef}
+use Rattle.q4_table.specs.declared.adding.Added.{Added}
+use Rattle.q4_table.specs.declared.adding.Added.TheVariants.{New, Seen}
+use Rattle.q4_machine.specs.declared.looks.Listed.{Listed}
+use Rattle.q4_machine.specs.declared.desk.DeskFault.TheVariants.{Memory}
+use Rattle.q4_machine.specs.declared.desk.InsertFault.{InsertFault}
+use Rattle.q4_machine.specs.declared.desk.InsertFault.TheVariants as insert_fault
 use Rattle.q4_machine.specs.declared.desk.ModeFault.TheVariants as fault
-use Rattle.q4_machine.specs.Step.{end_reply, look_reply, added_reply}
+use Rattle.q4_machine.specs.Step.{end_reply, look_reply}
 use Rattle.q4_machine.specs.History.{state_after, is_added, is_owner, IsSettled, SyncsAreOwed, IsOpenFor}
-use Rattle.q4_machine.specs.Parts.{calls_of, Answer, Replied, ends_first, ending, IsPart, IsInOrder, Grows, IsOpened, IsClosed, insert_answer, wait_answer, end_answer}
-use Rattle.q4_machine.specs.Recorded.{Recorded, DeskState, entry, pushed, HasRoom, IsSound}
+use Rattle.q4_machine.specs.Parts.{calls_of, Answer, Replied, WantsMemory, ends_first, ending, IsPart, IsInOrder, Grows, IsOpened, IsClosed, insert_answer, wait_answer, end_answer}
+use Rattle.q4_machine.specs.Recorded.{Recorded, DeskState, entry, pushed, answered, HasRoom, IsSound}
 use Rattle.q4_machine.specs.OneDesk.{IsDesk}
-use Rattle.q4_machine.proofs.Lookup.{some_of}
+use Rattle.q4_table.proofs.Lookup.{some_of}
 use Rattle.q4_machine.proofs.Validity.{none_some}
 use Rattle.q4_machine.proofs.Histories.{settled_push, settled_by_sync, unsettled_push, unsettled_more, owed_push}
 
@@ -31,7 +36,6 @@ pub desk_of : (r : Recorded) (current : Option ℕ) (s : ℕ) → current ≡ So
 desk_of r current s is sound open_for settled owed room = record {
   in_order = record {
     legal = sound.legal;
-    one_table = sound.one_table;
     is_open = λ k here. subst (λ x. IsOpenFor r.seen 0 x) (some_of s k (sym is ∙ here)) open_for;
   };
   sound = sound;
@@ -179,6 +183,36 @@ inserted h r1 r2 r3 current s t row r is same room first second owed added sound
     let settled = settled_two h a b (settled_by_sync (h ++ a ∷ []) b refl) in
     called h (a ∷ b ∷ []) r3 current s (Insert t row) (Replied r) is grew sound open_for (room_two r1 r2 r3 a b room first second) settled (owed_two h a b (owed_push (h ++ a ∷ []) b (owed_push h a owed (λ e. cc e)) (λ _. unsettled_push h a added))) (synced_part h s (Insert t row) r refl settled)
 
+-- an insert that added no row
+calm_insert : (h : List Entry) (r1 r2 : Recorded) (current : Option ℕ) (s t : ℕ) (row : List Value) (r : Reply) → current ≡ Some s → r1.seen ≡ h → HasRoom r1 3 → r2 ≡ pushed r1 s (Insert t row) r → ((place : ℕ) → IsSettled h place) → SyncsAreOwed h → is_added r ≡ false
+    → IsSound r2.seen → IsOpenFor r2.seen 0 s → Called h r2 current s (Insert t row) (Replied r)
+calm_insert h r1 r2 current s t row r is same room first was owed calm sound open_for =
+    let a = entry s (Insert t row) r in
+    let grew : r2.seen ≡ h ++ a ∷ [] = ap (λ (x : Recorded). x.seen) first ∙ ap (λ x. x ++ a ∷ []) same in
+    let settled = settled_push h a was calm in
+    called h (a ∷ []) r2 current s (Insert t row) (Replied r) is grew sound open_for (room_one r1 r2 a room first) settled (owed_push h a owed (λ e. cc e)) (single_part h s (Insert t row) r refl refl settled)
+
+-- an insert that wanted memory
+no_insert : (h : List Entry) (r1 r2 : Recorded) (current : Option ℕ) (s t : ℕ) (row : List Value) → current ≡ Some s → r1.seen ≡ h → HasRoom r1 3 → r2 ≡ r1 → ((place : ℕ) → IsSettled h place) → SyncsAreOwed h
+    → IsSound r2.seen → IsOpenFor r2.seen 0 s → Called h r2 current s (Insert t row) WantsMemory
+no_insert h r1 r2 current s t row is same room first was owed sound open_for =
+    let grew : r2.seen ≡ h ++ [] = ap (λ (x : Recorded). x.seen) first ∙ same ∙ sym (append-nil h) in
+    let left : HasRoom r2 1 = subst (λ (r : Recorded). HasRoom r 1) (sym first) (omega (arith, room.0), omega (arith, room.1)) in
+    called h [] r2 current s (Insert t row) WantsMemory is grew sound open_for left (λ place. subst (λ x. IsSettled x place) (sym (append-nil h)) (was place)) (subst SyncsAreOwed (sym (append-nil h)) owed)
+    (record { session_is = All-nil (λ (x : Entry). x.session ≡ s); cases = refl })
+
+-- an insert that was seen before or refused
+pub insert_calm : (h : List Entry) (r1 r2 : Recorded) (current : Option ℕ) (s t : ℕ) (row : List Value) (mark : ℕ) → current ≡ Some s → r1.seen ≡ h → HasRoom r1 3 → r2 ≡ answered r1 s (Insert t row) (insert_answer (Ok (Seen mark))) → ((place : ℕ) → IsSettled h place) → SyncsAreOwed h
+    → IsSound r2.seen → IsOpenFor r2.seen 0 s → Called h r2 current s (Insert t row) (insert_answer (Ok (Seen mark)))
+insert_calm h r1 r2 current s t row mark is same room first was owed sound open_for = calm_insert h r1 r2 current s t row (reply.Seen mark) is same room first was owed refl sound open_for
+
+pub insert_refused : (h : List Entry) (r1 r2 : Recorded) (current : Option ℕ) (s t : ℕ) (row : List Value) (f : InsertFault) → current ≡ Some s → r1.seen ≡ h → HasRoom r1 3 → r2 ≡ answered r1 s (Insert t row) (insert_answer (Err f)) → ((place : ℕ) → IsSettled h place) → SyncsAreOwed h
+    → IsSound r2.seen → IsOpenFor r2.seen 0 s → Called h r2 current s (Insert t row) (insert_answer (Err f))
+insert_refused h r1 r2 current s t row insert_fault.Spent is same room first was owed sound open_for = calm_insert h r1 r2 current s t row (reply.Refused refusal.Spent) is same room first was owed refl sound open_for
+insert_refused h r1 r2 current s t row insert_fault.Rows is same room first was owed sound open_for = calm_insert h r1 r2 current s t row (reply.Refused refusal.Rows) is same room first was owed refl sound open_for
+insert_refused h r1 r2 current s t row (insert_fault.Bytes sum) is same room first was owed sound open_for = calm_insert h r1 r2 current s t row (reply.Refused (refusal.Bytes sum)) is same room first was owed refl sound open_for
+insert_refused h r1 r2 current s t row (insert_fault.Desk Memory) is same room first was owed sound open_for = no_insert h r1 r2 current s t row is same room first was owed sound open_for
+
 -- ## End
 
 -- an end that removed a row, and its sync
@@ -205,7 +239,7 @@ ended_calm h r1 r2 current s r is same room first was owed calm sound open_for =
 -- ## Wait
 
 -- a look in non-owner mode
-pub looked_only : (h : List Entry) (r1 r2 : Recorded) (current : Option ℕ) (s : ℕ) (list : List ℕ) (r : Reply) → current ≡ Some s → r1.seen ≡ h → HasRoom r1 4 → r2 ≡ pushed r1 s (Look list) r → ((place : ℕ) → IsSettled h place) → SyncsAreOwed h → mode_of (state_after h) s ≡ Some NonOwner
+pub looked_only : (h : List Entry) (r1 r2 : Recorded) (current : Option ℕ) (s : ℕ) (list : List Listed) (r : Reply) → current ≡ Some s → r1.seen ≡ h → HasRoom r1 4 → r2 ≡ pushed r1 s (Look list) r → ((place : ℕ) → IsSettled h place) → SyncsAreOwed h → mode_of (state_after h) s ≡ Some NonOwner
     → IsSound r2.seen → IsOpenFor r2.seen 0 s → Called h r2 current s (Look list) (Replied r)
 looked_only h r1 r2 current s list r is same room first was owed mode sound open_for =
     let a = entry s (Look list) r in
@@ -219,7 +253,7 @@ end_done (Ok row) o refused other = refl
 end_done (Err refusal) o refused other = absurd (other refused)
 
 -- a look that ends first, and removes no row
-pub looked_empty : (h : List Entry) (r1 r2 r3 : Recorded) (current : Option ℕ) (s : ℕ) (list : List ℕ) (r : Reply) (result : Result (Option (ℕ × ℕ)) Refusal) → current ≡ Some s → r1.seen ≡ h → HasRoom r1 4
+pub looked_empty : (h : List Entry) (r1 r2 r3 : Recorded) (current : Option ℕ) (s : ℕ) (list : List Listed) (r : Reply) (result : Result (Option (ℕ × ℕ)) Refusal) → current ≡ Some s → r1.seen ≡ h → HasRoom r1 4
     → r2 ≡ pushed r1 s End (end_reply result) → r3 ≡ pushed r2 s (Look list) r → OnErr result (mode_of (state_after h) s ≡ Some NonOwner) → ((place : ℕ) → IsSettled h place) → SyncsAreOwed h → mode_of (state_after h) s ≡ Some Empty
     → IsSound r3.seen → IsOpenFor r3.seen 0 s → Called h r3 current s (Look list) (Replied r)
 looked_empty h r1 r2 r3 current s list r result is same room first second refused was owed mode sound open_for =
@@ -237,7 +271,7 @@ looked_empty h r1 r2 r3 current s list r result is same room first second refuse
     })
 
 -- a look that ends first, and removes a row
-pub looked_owner : (h : List Entry) (r1 r2 r3 r4 : Recorded) (current : Option ℕ) (s t n : ℕ) (list : List ℕ) (r : Reply) (result : Result (Option (ℕ × ℕ)) Refusal) → current ≡ Some s → r1.seen ≡ h → HasRoom r1 4
+pub looked_owner : (h : List Entry) (r1 r2 r3 r4 : Recorded) (current : Option ℕ) (s t n : ℕ) (list : List Listed) (r : Reply) (result : Result (Option (ℕ × ℕ)) Refusal) → current ≡ Some s → r1.seen ≡ h → HasRoom r1 4
     → r2 ≡ pushed r1 s End (end_reply result) → r3 ≡ pushed r2 s (Look list) r → r4 ≡ pushed r3 s Sync reply.Done → OnErr result (mode_of (state_after h) s ≡ Some NonOwner) → SyncsAreOwed h → mode_of (state_after h) s ≡ Some (Owner t n)
     → IsSound r4.seen → IsOpenFor r4.seen 0 s → Called h r4 current s (Look list) (Replied r)
 looked_owner h r1 r2 r3 r4 current s t n list r result is same room first second third refused owed mode sound open_for =
@@ -273,15 +307,6 @@ pub wait_replied : (place : Option ℕ) → Replied (look_reply place) ≡ wait_
 wait_replied (Some place) = refl
 wait_replied None = refl
 
-pub insert_replied : (added : Added) → Replied (added_reply added) ≡ insert_answer (Ok added)
-insert_replied (New number) = refl
-
--- a row that was added is a change
-pub added_changes : (added : Added) → is_added (added_reply added) ≡ true
-added_changes (New number) = refl
-
-pub end_refused : (refusal : Refusal) → Replied (reply.Refused refusal) ≡ end_answer (Err fault.NotOwner)
-end_refused NotOwner = refl
 
 -- ## Opening and closing
 
@@ -299,7 +324,7 @@ closed_desk h r1 r2 s same first was owed sound =
     let a = entry s Close reply.Done in
     let grew : r2.seen ≡ h ++ a ∷ [] = ap (λ (x : Recorded). x.seen) first ∙ ap (λ x. x ++ a ∷ []) same in (
       record {
-        in_order = record { legal = sound.legal; one_table = sound.one_table; is_open = λ k is. absurd (none_some k is) };
+        in_order = record { legal = sound.legal; is_open = λ k is. absurd (none_some k is) };
         sound = sound;
         settled = λ place. subst (λ x. IsSettled x place) (sym grew) (settled_push h a was refl place);
         owed = subst SyncsAreOwed (sym grew) (owed_push h a owed (λ e. cc e));

@@ -6,15 +6,19 @@ use Rattle.std.proofs.lemmas.Bool.{true≢false, and_from, eq-eqb}
 use Rattle.std.proofs.lemmas.List.Sums.{fold-append}
 use Rattle.std.proofs.lemmas.List.Quantifiers.{Any-push}
 use Rattle.std.proofs.lemmas.List.Elements.{All-head, All-tail}
+use Rattle.q4_value.specs.declared.row.Value.{Value}
+use Rattle.q4_table.specs.declared.adding.Check.{Check}
+use Rattle.q4_table.specs.declared.adding.Check.TheVariants as check
+use Rattle.q4_table.specs.Adding.{check_of}
 use Rattle.q4_machine.specs.declared.entry.Entry.{Entry}
 use Rattle.q4_machine.specs.declared.entry.Call.{Call}
 use Rattle.q4_machine.specs.declared.entry.Call.TheVariants.{Opened, Open, Insert, Look, End, Close, Sync}
 use Rattle.q4_machine.specs.declared.session.SessionMode.{SessionMode}
 use Rattle.q4_machine.specs.declared.session.SessionMode.TheVariants.{NonOwner, Empty, Owner}
 use Rattle.q4_machine.specs.declared.session.OpenSession.{OpenSession}
-use Rattle.q4_machine.specs.Machine.{MachineState, mode_of, in_mode, with_mode, without_session}
+use Rattle.q4_machine.specs.Machine.{MachineState, table_at, mode_of, in_mode, with_mode, without_session}
 use Rattle.q4_machine.specs.Pick.{Picked, pick}
-use Rattle.q4_machine.specs.Step.{step, looked, ended, closed}
+use Rattle.q4_machine.specs.Step.{step, inserted, looked, ended, closed}
 use Rattle.q4_machine.specs.History.{nothing, advance, state_after, is_open, opener, IsNext, is_change, IsSettled, SyncsAreOwed, IsLegal}
 
 pub cons_head : {X : Type 0} {x y : X} {xs ys : List X} → x ∷ xs ≡ y ∷ ys → x ≡ y
@@ -26,7 +30,7 @@ cons_head {X = X} {x = x} is = ap (λ l. first_or l) is where
 pub cons_tail : {X : Type 0} {x y : X} {xs ys : List X} → x ∷ xs ≡ y ∷ ys → xs ≡ ys
 cons_tail is = ap (drop 1) is
 
-nil_long : {X : Type 0} (before : List X) (e : X) (later : List X) → [] ≡ before ++ e ∷ later → ⊥
+pub nil_long : {X : Type 0} (before : List X) (e : X) (later : List X) → [] ≡ before ++ e ∷ later → ⊥
 nil_long [] e later is = cc is
 nil_long (b ∷ before) e later is = cc is
 
@@ -72,10 +76,17 @@ looked_sessions : (m : MachineState) (s : ℕ) (o : Option Picked) → length (l
 looked_sessions m s (Some p) = let e = moved_length s (Owner p.table p.number) m.sessions in omega (arith, e)
 looked_sessions m s None = let e = moved_length s Empty m.sessions in omega (arith, e)
 
+inserted_sessions : (m : MachineState) (t : ℕ) (row : List Value) (c : Check) → length (inserted m t row c).0.sessions ≤ length m.sessions + 1
+inserted_sessions m t row check.New = omega arith
+inserted_sessions m t row (check.Seen mark) = omega arith
+inserted_sessions m t row check.Spent = omega arith
+inserted_sessions m t row check.Rows = omega arith
+inserted_sessions m t row (check.Bytes sum) = omega arith
+
 step_sessions : (m : MachineState) (s : ℕ) (call : Call) → length (step m s call).0.sessions ≤ length m.sessions + 1
 step_sessions m s (Opened tables) = omega arith
 step_sessions m s Open = let e = length-append m.sessions (record { session = m.next_session; mode = NonOwner } ∷ []) in omega (arith, e)
-step_sessions m s (Insert place row) = omega arith
+step_sessions m s (Insert place row) = inserted_sessions m place row (check_of (table_at m.tables place) row None)
 step_sessions m s (Look list) = looked_sessions m s (pick m list)
 step_sessions m s End = ended_sessions m s (mode_of m s)
 step_sessions m s Close = closed_sessions m s (mode_of m s)

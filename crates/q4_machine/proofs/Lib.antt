@@ -1,10 +1,11 @@
-pub mod Lookup
-pub mod Rising
 pub mod Validity
 pub mod Steps
+pub mod Defined
 pub mod Picks
 pub mod Looking
+pub mod Inserting
 pub mod Histories
 pub mod Reached
 pub mod Recording
+pub mod Opened
 pub mod Desks

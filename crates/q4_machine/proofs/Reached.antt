@@ -8,12 +8,14 @@ use Rattle.q4_machine.specs.declared.session.SessionMode.TheVariants.{Owner}
 use Rattle.std.specs.Prelude.{option_and_then}
 use Rattle.q4_machine.specs.declared.entry.Entry.{Entry}
 use Rattle.q4_machine.specs.declared.entry.Call.TheVariants.{Opened, Look}
-use Rattle.q4_machine.specs.declared.table.StoredRow.{StoredRow}
-use Rattle.q4_machine.specs.TableState.{TableState}
-use Rattle.q4_machine.specs.Machine.{no_table, table_at, row_in}
+use Rattle.q4_table.specs.declared.rows.StoredRow.{StoredRow}
+use Rattle.q4_table.specs.Rows.{row_in}
+use Rattle.q4_machine.specs.declared.looks.Listed.{Listed}
+use Rattle.q4_machine.specs.declared.tables.Opening.{Opening}
+use Rattle.q4_machine.specs.Machine.{no_table, table_at}
 use Rattle.q4_machine.specs.Step.{step, MayStep}
-use Rattle.q4_machine.specs.Valid.{IsValidTable, IsValid}
-use Rattle.q4_machine.specs.History.{nothing, advance, state_after, IsNext, IsOpening, IsLegal}
+use Rattle.q4_machine.specs.Valid.{AreValidTables, IsValid}
+use Rattle.q4_machine.specs.History.{nothing, advance, state_after, AreUnowned, IsNext, IsOpening, IsLegal}
 use Rattle.q4_machine.specs.Looked.{LookAnswers}
 use Rattle.q4_machine.proofs.Looking.{valid_step, look_answers}
 use Rattle.q4_machine.proofs.Histories.{state_push, cons_head, cons_tail}
@@ -22,7 +24,7 @@ use Rattle.q4_machine.proofs.Validity.{none_some}
 none_mode : (mode : SessionMode) → None ≡ Some mode → ⊥
 none_mode mode is = none_some mode is
 
-opened_look : (tables : List TableState) (list : List ℕ) → Opened tables ≡ Look list → ⊥
+opened_look : (tables : List Opening) (list : List Listed) → Opened tables ≡ Look list → ⊥
 opened_look tables list is = cc is
 
 row_unowned : (rows : List StoredRow) (n : ℕ) → All (λ (r : StoredRow). r.owner ≡ None) rows → option_and_then (λ (r : StoredRow). r.owner) (row_in rows n) ≡ None
@@ -32,14 +34,14 @@ row_unowned (r ∷ rows) n unowned = elim (r.number == n) as (λ b. option_and_t
   | false ↦ row_unowned rows n (All-tail (λ (x : StoredRow). x.owner ≡ None) r rows unowned)
 ]
 
-all_unowned : (tables : List TableState) → All (λ (t : TableState). All (λ (r : StoredRow). r.owner ≡ None) t.rows) tables → (place n : ℕ) → option_and_then (λ (r : StoredRow). r.owner) (row_in (table_at tables place).rows n) ≡ None
+all_unowned : (tables : List Opening) → AreUnowned tables → (place n : ℕ) → option_and_then (λ (r : StoredRow). r.owner) (row_in (table_at tables place).rows n) ≡ None
 all_unowned tables unowned place n = elim (cases_lt place (length tables)) [
-  | inl inside ↦ row_unowned (table_at tables place).rows n (All-get_or (λ (t : TableState). All (λ (r : StoredRow). r.owner ≡ None) t.rows) tables place no_table inside unowned)
-  | inr past ↦ ap (λ (t : TableState). option_and_then (λ (r : StoredRow). r.owner) (row_in t.rows n)) (get_or-eq_default tables no_table past)
+  | inl inside ↦ row_unowned (table_at tables place).rows n (All-get_or (λ (o : Opening). All (λ (r : StoredRow). r.owner ≡ None) o.table.rows) tables place no_table inside unowned)
+  | inr past ↦ ap (λ (o : Opening). option_and_then (λ (r : StoredRow). r.owner) (row_in o.table.rows n)) (get_or-eq_default tables no_table past)
 ]
 
 -- the machine over tables that were just opened
-pub valid_new : (tables : List TableState) → All IsValidTable tables → All (λ (t : TableState). All (λ (r : StoredRow). r.owner ≡ None) t.rows) tables → IsValid (record { tables = tables; sessions = []; next_session = 1 })
+pub valid_new : (tables : List Opening) → AreValidTables tables → AreUnowned tables → IsValid (record { tables = tables; sessions = []; next_session = 1 })
 valid_new tables valid unowned = record {
   tables = valid;
   begins = omega arith;
@@ -75,7 +77,7 @@ valid_reached history legal (o ∷ front) later cut some =
     let whole = sym legal.whole ∙ cut in
     subst (λ (x : Entry). IsValid (state_after (x ∷ front))) (cons_head whole) (valid_at history legal front later (cons_tail whole))
 
-look_cut : (history : List Entry) (legal : IsLegal history) (front later : List Entry) (e : Entry) (list : List ℕ) → legal.rest ≡ front ++ e ∷ later → e.call ≡ Look list
+look_cut : (history : List Entry) (legal : IsLegal history) (front later : List Entry) (e : Entry) (list : List Listed) → legal.rest ≡ front ++ e ∷ later → e.call ≡ Look list
     → LookAnswers (state_after (legal.opening ∷ front)) (state_after ((legal.opening ∷ front) ++ e ∷ [])) e.session list e.reply
 look_cut history legal front later e list cut look =
     let m = state_after (legal.opening ∷ front) in
@@ -87,11 +89,11 @@ look_cut history legal front later e list cut look =
     let after : (step m e.session (Look list)).0 ≡ state_after ((legal.opening ∷ front) ++ e ∷ []) = sym (state_push (legal.opening ∷ front) e ∙ ap (λ c. (step m e.session c).0) look) in
     subst (λ r. LookAnswers m (state_after ((legal.opening ∷ front) ++ e ∷ [])) e.session list r) reply (subst (λ after. LookAnswers m after e.session list (step m e.session (Look list)).1) after answers)
 
-not_look : (o : Entry) (list : List ℕ) → IsOpening o → o.call ≡ Look list → ⊥
+not_look : (o : Entry) (list : List Listed) → IsOpening o → o.call ≡ Look list → ⊥
 not_look o list opens look = opened_look opens.tables list (sym opens.call ∙ look)
 
 -- what each look of a legal history was answered
-pub looks_answered : (history : List Entry) → IsLegal history → (front : List Entry) (e : Entry) (later : List Entry) (list : List ℕ) → history ≡ front ++ e ∷ later → e.call ≡ Look list
+pub looks_answered : (history : List Entry) → IsLegal history → (front : List Entry) (e : Entry) (later : List Entry) (list : List Listed) → history ≡ front ++ e ∷ later → e.call ≡ Look list
     → LookAnswers (state_after front) (state_after (front ++ e ∷ [])) e.session list e.reply
 looks_answered history legal [] e later list cut look =
     let whole = sym legal.whole ∙ cut in

@@ -1,54 +1,37 @@
 -- One more entry of a machine that records its history.
-use Rattle.std.proofs.Common.{◌≡◌, ◌≢◌, ◌<◌, ◌+◌, ◌^◌, ◌++◌, ◌∷◌, ◌∙◌, [], List, ℕ, false, Option, Some, None, All, length, refl, sym, ap, subst, arith, append-nil}
-use Rattle.std.proofs.lemmas.List.{length-set}
+use Rattle.std.proofs.Common.{◌≡◌, ◌≢◌, ◌<◌, ◌+◌, ◌^◌, ◌++◌, ◌∷◌, ◌∙◌, [], List, ℕ, false, Option, Some, None, All, length, refl, sym, ap, subst, append-nil}
 use Rattle.std.proofs.lemmas.Bool.{true≢false}
-use Rattle.std.proofs.lemmas.List.Elements.{All-push, All-weaker}
+use Rattle.std.proofs.lemmas.List.Elements.{All-push}
 use Rattle.q4_value.specs.declared.row.Value.{Value}
-use Rattle.q4_machine.specs.Fits.{RowFits}
-use Rattle.q4_machine.specs.Valid.{IsValid}
-use Rattle.q4_machine.proofs.Reached.{valid_reached}
-use Rattle.q4_machine.proofs.Steps.{mode_opened}
+use Rattle.q4_table.specs.declared.adding.Check.{Check}
+use Rattle.q4_table.specs.declared.adding.Check.TheVariants as check
+use Rattle.q4_table.specs.Adding.{check_of}
 use Rattle.q4_machine.specs.declared.entry.Entry.{Entry}
 use Rattle.q4_machine.specs.declared.entry.Call.{Call}
-use Rattle.q4_machine.specs.declared.entry.Call.TheVariants.{Opened, Open, Insert, Look, End, Close, Sync}
+use Rattle.q4_machine.specs.declared.entry.Call.TheVariants.{Open, Insert, Look, End, Close, Sync}
 use Rattle.q4_machine.specs.declared.entry.Reply.{Reply}
 use Rattle.q4_machine.specs.declared.entry.Reply.TheVariants as reply
+use Rattle.q4_machine.specs.declared.looks.Listed.{Listed}
 use Rattle.q4_machine.specs.declared.session.SessionMode.{SessionMode}
 use Rattle.q4_machine.specs.declared.session.SessionMode.TheVariants.{NonOwner, Empty, Owner}
+use Rattle.q4_machine.specs.Definitions.{definitions, IsRowFor, IsListed}
 use Rattle.q4_machine.specs.Machine.{MachineState, mode_of, table_at}
 use Rattle.q4_machine.specs.Pick.{Picked, pick}
-use Rattle.q4_machine.specs.Step.{step, MayStep, looked, ended, closed, number_limit}
-use Rattle.q4_machine.specs.History.{state_after, is_open, opener, IsOpenFor, IsLegal}
+use Rattle.q4_machine.specs.Step.{step, MayStep, inserted, looked, ended}
+use Rattle.q4_machine.specs.Valid.{IsValid}
+use Rattle.q4_machine.specs.History.{state_after, definitions_of, is_open, opener, IsOpenFor, IsLegal}
 use Rattle.q4_machine.specs.Recorded.{entry, IsRecorded}
+use Rattle.q4_machine.proofs.Defined.{step_defined}
+use Rattle.q4_machine.proofs.Reached.{valid_reached}
+use Rattle.q4_machine.proofs.Steps.{mode_opened}
 use Rattle.q4_machine.proofs.Validity.{none_some, mode_given}
 use Rattle.q4_machine.proofs.Histories.{state_push, legal_push, opener_more, opener_now}
 
--- ## The number of tables stays
+-- ## The definitions stay
 
-looked_tables : (m : MachineState) (s : ℕ) (o : Option Picked) → length (looked m s o).0.tables ≡ length m.tables
-looked_tables m s (Some p) = length-set m.tables p.table _
-looked_tables m s None = refl
-
-ended_tables : (m : MachineState) (s : ℕ) (o : Option SessionMode) → length (ended m s o).0.tables ≡ length m.tables
-ended_tables m s (Some NonOwner) = refl
-ended_tables m s (Some Empty) = refl
-ended_tables m s (Some (Owner t n)) = length-set m.tables t _
-ended_tables m s None = refl
-
-closed_tables : (m : MachineState) (s : ℕ) (o : Option SessionMode) → length (closed m s o).0.tables ≡ length m.tables
-closed_tables m s (Some NonOwner) = refl
-closed_tables m s (Some Empty) = refl
-closed_tables m s (Some (Owner t n)) = length-set m.tables t _
-closed_tables m s None = refl
-
-pub step_tables : (m : MachineState) (s : ℕ) (call : Call) → MayStep m s call → length (step m s call).0.tables ≡ length m.tables
-step_tables m s (Opened tables) may = absurd may
-step_tables m s Open may = refl
-step_tables m s (Insert place row) may = length-set m.tables place _
-step_tables m s (Look list) may = looked_tables m s (pick m list)
-step_tables m s End may = ended_tables m s (mode_of m s)
-step_tables m s Close may = closed_tables m s (mode_of m s)
-step_tables m s Sync may = refl
+-- a history that is not empty keeps its first entry
+pub defined_push : (history : List Entry) (e : Entry) → IsLegal history → definitions_of (history ++ e ∷ []) ≡ definitions_of history
+defined_push history e legal = ap (λ h. definitions_of (h ++ e ∷ [])) legal.whole ∙ ap definitions_of (sym legal.whole)
 
 -- ## One more entry
 
@@ -62,7 +45,7 @@ recorded_push m m' history s call reply recorded steps may opened few =
       reached = reached;
       sound = record {
         legal = legal_push history e recorded.sound.legal (record { may = may; caller = opened; reply = sym (ap (λ r. r.1) here) }) few;
-        one_table = ap (λ (x : MachineState). length x.tables) (state_push history e) ∙ step_tables (state_after history) s call may ∙ recorded.sound.one_table;
+        defined = ap (λ (x : MachineState). definitions x.tables) (state_push history e) ∙ step_defined (state_after history) s call may ∙ recorded.sound.defined ∙ sym (defined_push history e recorded.sound.legal);
         by_zero = All-push (λ (x : Entry). x.caller ≡ 0) history e recorded.sound.by_zero refl;
       };
     }
@@ -93,7 +76,7 @@ looked_mode : (m : MachineState) (s : ℕ) (o : Option Picked) → mode_of m s �
 looked_mode m s (Some p) there = some_there (mode_of (looked m s (Some p)).0 s) (Owner p.table p.number) (mode_given s (Owner p.table p.number) m.sessions there)
 looked_mode m s None there = some_there (mode_of (looked m s None).0 s) Empty (mode_given s Empty m.sessions there)
 
-pub mode_looked : (m : MachineState) (s : ℕ) (list : List ℕ) → mode_of m s ≢ None → mode_of (step m s (Look list)).0 s ≢ None
+pub mode_looked : (m : MachineState) (s : ℕ) (list : List Listed) → mode_of m s ≢ None → mode_of (step m s (Look list)).0 s ≢ None
 mode_looked m s list there = looked_mode m s (pick m list) there
 
 -- ## Each call of an open session
@@ -110,19 +93,26 @@ go_on m m' history s call reply recorded steps may was there few = record {
   is_open = open_after history s call reply was there;
 }
 
-pub insert_goes : (m m' : MachineState) (history : List Entry) (s t : ℕ) (row : List Value) (reply : Reply) → IsRecorded m history → step m s (Insert t row) ≡ (m', reply) → t < 1 → RowFits row → (table_at m.tables t).next < number_limit
-    → IsOpenFor history 0 s → length history + 1 < 2 ^ 61 → Goes m' (history ++ entry s (Insert t row) reply ∷ []) s
-insert_goes m m' history s t row reply recorded steps place fits left was few =
-    let one = recorded.sound.one_table in
-    let left' = subst (λ (x : MachineState). (table_at x.tables t).next < number_limit) recorded.reached left in
-    go_on m m' history s (Insert t row) reply recorded steps (was.is_open, omega (arith, one, place), fits, left') was was.is_open few
+inserted_mode : (m : MachineState) (s t : ℕ) (row : List Value) (c : Check) → mode_of (inserted m t row c).0 s ≡ mode_of m s
+inserted_mode m s t row check.New = refl
+inserted_mode m s t row (check.Seen mark) = refl
+inserted_mode m s t row check.Spent = refl
+inserted_mode m s t row check.Rows = refl
+inserted_mode m s t row (check.Bytes sum) = refl
 
-pub look_goes : (m m' : MachineState) (history : List Entry) (s : ℕ) (list : List ℕ) (reply : Reply) → IsRecorded m history → step m s (Look list) ≡ (m', reply)
-    → mode_of (state_after history) s ≡ Some NonOwner → All (λ place. place < 1) list → IsOpenFor history 0 s → length history + 1 < 2 ^ 61 → Goes m' (history ++ entry s (Look list) reply ∷ []) s
-look_goes m m' history s list reply recorded steps mode places was few =
-    let inside : All (λ place. place < length (state_after history).tables) list =
-    All-weaker (λ (place : ℕ). place < 1) (λ (place : ℕ). place < length (state_after history).tables) (λ place small. let one = recorded.sound.one_table in omega (arith, one, small)) list places in
-    go_on m m' history s (Look list) reply recorded steps (mode, inside) was (mode_looked (state_after history) s list was.is_open) few
+pub insert_goes : (m m' : MachineState) (history : List Entry) (s t : ℕ) (row : List Value) (reply : Reply) → IsRecorded m history → step m s (Insert t row) ≡ (m', reply) → IsRowFor (definitions_of history) t row
+    → IsOpenFor history 0 s → length history + 1 < 2 ^ 61 → Goes m' (history ++ entry s (Insert t row) reply ∷ []) s
+insert_goes m m' history s t row reply recorded steps for_it was few =
+    let reached = state_after history in
+    let for_reached = subst (λ defs. IsRowFor defs t row) (sym recorded.sound.defined) for_it in
+    let same = inserted_mode reached s t row (check_of (table_at reached.tables t) row None) in
+    go_on m m' history s (Insert t row) reply recorded steps (was.is_open, for_reached) was (λ none. was.is_open (sym same ∙ none)) few
+
+pub look_goes : (m m' : MachineState) (history : List Entry) (s : ℕ) (list : List Listed) (reply : Reply) → IsRecorded m history → step m s (Look list) ≡ (m', reply)
+    → mode_of (state_after history) s ≡ Some NonOwner → All (IsListed (definitions_of history)) list → IsOpenFor history 0 s → length history + 1 < 2 ^ 61 → Goes m' (history ++ entry s (Look list) reply ∷ []) s
+look_goes m m' history s list reply recorded steps mode listed was few =
+    let listed_reached = subst (λ defs. All (IsListed defs) list) (sym recorded.sound.defined) listed in
+    go_on m m' history s (Look list) reply recorded steps (mode, listed_reached) was (mode_looked (state_after history) s list was.is_open) few
 
 pub end_goes : (m m' : MachineState) (history : List Entry) (s : ℕ) (reply : Reply) → IsRecorded m history → step m s End ≡ (m', reply) → IsOpenFor history 0 s → length history + 1 < 2 ^ 61
     → Goes m' (history ++ entry s End reply ∷ []) s
@@ -145,6 +135,7 @@ session_of a b is = ap (λ r. number_of r) is where
   number_of (reply.Session n) = n
   number_of reply.Done = 0
   number_of (reply.Added n) = 0
+  number_of (reply.Seen n) = 0
   number_of (reply.Found n) = 0
   number_of reply.Nothing = 0
   number_of (reply.Refused refusal) = 0

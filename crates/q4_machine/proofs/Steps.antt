@@ -1,69 +1,45 @@
 -- Each step leads from a valid machine to a valid one.
 use Rattle.std.proofs.Common.{◌≡◌, ◌≢◌, ◌==◌, ◌<◌, ◌+◌, ◌∷◌, ◌∙◌, [], List, ℕ, true, false, cond, not, Option, Some, None, map, get_or, length, unwrap_or, refl, sym, ap, subst, arith, inl, inr, get_or-set_same, get_or-set_other}
-use Rattle.std.specs.Option.{option_map}
+use Rattle.std.specs.Option.{option_map, ForSome}
 use Rattle.std.specs.Prelude.{option_and_then}
 use Rattle.std.proofs.Math.ListN.{get_or-eq_default}
 use Rattle.std.proofs.lemmas.Bool.{cases_eq, cases_lt}
 use Rattle.std.proofs.lemmas.List.{map-append}
 use Rattle.std.proofs.lemmas.List.Elements.{All-set, All-map, All-filter, All-push, All-get_or}
 use Rattle.q4_value.specs.declared.row.Value.{Value}
+use Rattle.q4_value.specs.Row.{Fits}
+use Rattle.q4_table.specs.declared.adding.Check.TheVariants as check
+use Rattle.q4_table.specs.declared.rows.StoredRow.{StoredRow}
+use Rattle.q4_table.specs.TableState.{TableState}
+use Rattle.q4_table.specs.Rows.{row_in, owner_in, with_owner, without_row}
+use Rattle.q4_table.specs.Adding.{IsOrigin, check_of, add_row}
+use Rattle.q4_table.specs.Valid.{RiseBelow, IsValidTable}
 use Rattle.q4_machine.specs.declared.session.SessionMode.{SessionMode}
 use Rattle.q4_machine.specs.declared.session.SessionMode.TheVariants.{NonOwner, Empty, Owner}
 use Rattle.q4_machine.specs.declared.session.OpenSession.{OpenSession}
-use Rattle.q4_machine.specs.declared.table.StoredRow.{StoredRow}
-use Rattle.q4_machine.specs.declared.entry.Call.TheVariants.{Open, Insert}
-use Rattle.q4_machine.specs.TableState.{TableState}
-use Rattle.q4_machine.specs.Machine.{MachineState, no_table, table_at, mode_of, owner_at, session_in, row_in, in_mode, with_mode, without_session, owned_by, with_owner, without_row}
-use Rattle.q4_machine.specs.Fits.{RowFits}
-use Rattle.q4_machine.specs.Step.{with_table, with_rows, with_session, with_none, add_row, number_limit, step, ended, closed}
-use Rattle.q4_machine.specs.Valid.{RiseBelow, IsValidTable, IsValid}
-use Rattle.q4_machine.proofs.Lookup.{found, found_others, found_gone, found_before, found_last}
-use Rattle.q4_machine.proofs.Rising.{rise-push, rise-filter, none_next, map_keeps}
-use Rattle.q4_machine.proofs.Validity.{Agrees, OwnsNothing, agrees_quiet, agrees_take, agrees_leave, none_some, keeps_number, keeps_session, mode_given, mode_other, owner_given, owner_other}
-
--- ## Tables
-
-fits_owned : (number : ℕ) (owner : Option ℕ) (r : StoredRow) → RowFits r.row → RowFits (owned_by number owner r).row
-fits_owned number owner r fits = elim (r.number == number) as (λ b. RowFits (cond b (record { number = r.number; row = r.row; owner = owner }) r).row) [ true ↦ fits | false ↦ fits ]
-
-pub table-with_owner : (number : ℕ) (owner : Option ℕ) (table : TableState) → IsValidTable table → IsValidTable (record table { rows = with_owner number owner table.rows })
-table-with_owner number owner table valid = record {
-  begins = valid.begins;
-  limit = valid.limit;
-  numbers = subst (RiseBelow 0 table.next) (sym (map_keeps (λ (r : StoredRow). r.number) (owned_by number owner) (keeps_number number owner) table.rows)) valid.numbers;
-  fit = All-map (λ (r : StoredRow). RowFits r.row) (owned_by number owner) table.rows (λ k d inside. fits_owned number owner (get_or table.rows k d) (valid.fit k d inside));
-}
-
-pub table-without_row : (number : ℕ) (table : TableState) → IsValidTable table → IsValidTable (record table { rows = without_row number table.rows })
-table-without_row number table valid = record {
-  begins = valid.begins;
-  limit = valid.limit;
-  numbers = rise-filter (λ (r : StoredRow). r.number) (λ (r : StoredRow). not (r.number == number)) 0 table.next table.rows valid.numbers;
-  fit = All-filter (λ (r : StoredRow). not (r.number == number)) (λ (r : StoredRow). RowFits r.row) table.rows valid.fit;
-}
-
-new_row : TableState → List Value → StoredRow
-new_row table row = record { number = table.next; row = row; owner = None }
-
-pub table-add_row : (table : TableState) (row : List Value) → RowFits row → table.next < number_limit → IsValidTable table → IsValidTable (add_row table row)
-unfolding new_row
-table-add_row table row fits left valid = record {
-  begins = omega arith;
-  limit = omega (arith, left);
-  numbers = subst (RiseBelow 0 (table.next + 1)) (sym (map-append (λ (r : StoredRow). r.number) table.rows (new_row table row ∷ []))) (rise-push 0 table.next (map (λ (r : StoredRow). r.number) table.rows) valid.begins valid.numbers);
-  fit = All-push (λ (r : StoredRow). RowFits r.row) table.rows (new_row table row) valid.fit fits;
-}
+use Rattle.q4_machine.specs.declared.tables.Opening.{Opening}
+use Rattle.q4_machine.specs.declared.entry.Call.TheVariants.{Open}
+use Rattle.q4_machine.specs.Machine.{MachineState, no_table, opening_at, table_at, mode_of, owner_at, session_in, in_mode, with_mode, without_session}
+use Rattle.q4_machine.specs.Step.{with_table, with_rows, with_session, with_none, step, ended, closed}
+use Rattle.q4_machine.specs.Valid.{IsValid}
+use Rattle.q4_table.proofs.Lookup.{found, found_others, found_gone, found_before, found_last}
+use Rattle.q4_table.proofs.Rising.{rise-push, rise-filter, none_next, map_keeps}
+use Rattle.q4_table.proofs.Validity.{valid-owned, valid-removed, valid-added}
+use Rattle.q4_machine.proofs.Validity.{Agrees, OwnsNothing, agrees_quiet, agrees_take, agrees_leave, none_some, keeps_session, mode_given, mode_other, owner_given, owner_other}
 
 -- ## Owners after a change of one table
 
-abbrev pub owner_in : List StoredRow → ℕ → Option ℕ
-owner_in rows number = option_and_then (λ r. r.owner) (row_in rows number)
+abbrev pub IsValidOpening : Opening → Type 0
+IsValidOpening opening = IsValidTable opening.table
+
+abbrev pub with_its : MachineState → ℕ → TableState → Opening
+with_its m t table = record (opening_at m.tables t) { table = table }
 
 pub owner_same : (m : MachineState) (t : ℕ) (table : TableState) (k : ℕ) → t < length m.tables → owner_at (with_table m t table) t k ≡ owner_in table.rows k
-owner_same m t table k inside = ap (λ (x : TableState). owner_in x.rows k) (get_or-set_same m.tables t table no_table inside)
+owner_same m t table k inside = ap (λ (x : Opening). owner_in x.table.rows k) (get_or-set_same m.tables t (with_its m t table) no_table inside)
 
 pub owner_apart : (m : MachineState) (t : ℕ) (table : TableState) (q k : ℕ) → q ≢ t → owner_at (with_table m t table) q k ≡ owner_at m q k
-owner_apart m t table q k other = ap (λ (x : TableState). owner_in x.rows k) (get_or-set_other m.tables t q table no_table other)
+owner_apart m t table q k other = ap (λ (x : Opening). owner_in x.table.rows k) (get_or-set_other m.tables t q (with_its m t table) no_table other)
 
 -- where one row of a table changes, all others keep their owners
 pub owner_elsewhere : (m : MachineState) (t n : ℕ) (table : TableState) → t < length m.tables → ((k : ℕ) → k ≢ n → owner_in table.rows k ≡ owner_in (table_at m.tables t).rows k)
@@ -81,7 +57,7 @@ row_of_owner o s is none = none_some s (ap (option_and_then (λ (r : StoredRow).
 pub owned_inside : (m : MachineState) (t n s : ℕ) → owner_at m t n ≡ Some s → (t < length m.tables) × (row_in (table_at m.tables t).rows n ≢ None)
 owned_inside m t n s is = elim (cases_lt t (length m.tables)) [
   | inl inside ↦ (inside, row_of_owner (row_in (table_at m.tables t).rows n) s is)
-  | inr past ↦ absurd (none_some s (sym (ap (λ (x : TableState). owner_in x.rows n) (get_or-eq_default m.tables no_table past)) ∙ is))
+  | inr past ↦ absurd (none_some s (sym (ap (λ (x : Opening). owner_in x.table.rows n) (get_or-eq_default m.tables no_table past)) ∙ is))
 ]
 
 -- ## Sessions
@@ -133,7 +109,7 @@ valid_taken m s t n valid was inside there free =
     (owner_elsewhere m t n taken inside (λ k other. owner_other n k (Some s) table.rows other))
     given (λ j other. mode_other s j (Owner t n) m.sessions other) in
     record {
-      tables = All-set IsValidTable m.tables t taken (table-with_owner n (Some s) table (All-get_or IsValidTable m.tables t no_table inside valid.tables)) valid.tables;
+      tables = All-set IsValidOpening m.tables t (with_its m t taken) (valid-owned table n (Some s) (All-get_or IsValidOpening m.tables t no_table inside valid.tables)) valid.tables;
       begins = valid.begins;
       sessions = sessions_moved m s (Owner t n) valid.sessions;
       owns = agree.owns;
@@ -159,7 +135,7 @@ valid_removed m s t n valid was =
     (owner_elsewhere m t n rest inside.0 (λ k other. owner_gone n k table.rows other))
     (λ q k is. not_owner q k (sym given ∙ is)) (λ j other. mode_other s j NonOwner m.sessions other) in
     record {
-      tables = All-set IsValidTable m.tables t rest (table-without_row n table (All-get_or IsValidTable m.tables t no_table inside.0 valid.tables)) valid.tables;
+      tables = All-set IsValidOpening m.tables t (with_its m t rest) (valid-removed table n (All-get_or IsValidOpening m.tables t no_table inside.0 valid.tables)) valid.tables;
       begins = valid.begins;
       sessions = sessions_moved m s NonOwner valid.sessions;
       owns = agree.owns;
@@ -198,7 +174,7 @@ valid_given_back m s t n valid was =
     (owner_elsewhere m t n given inside.0 (λ k other. owner_other n k None table.rows other))
     (λ q k is. not_there q k (sym gone ∙ is)) (λ j other. mode_without_other s j m.sessions other) in
     record {
-      tables = All-set IsValidTable m.tables t given (table-with_owner n None table (All-get_or IsValidTable m.tables t no_table inside.0 valid.tables)) valid.tables;
+      tables = All-set IsValidOpening m.tables t (with_its m t given) (valid-owned table n None (All-get_or IsValidOpening m.tables t no_table inside.0 valid.tables)) valid.tables;
       begins = valid.begins;
       sessions = sessions_left m s valid.sessions;
       owns = agree.owns;
@@ -236,12 +212,19 @@ valid_opened m session valid =
     }
 
 -- a new row
-pub valid_added : (m : MachineState) (session t : ℕ) (row : List Value) → IsValid m → t < length m.tables → RowFits row → (table_at m.tables t).next < number_limit → IsValid (step m session (Insert t row)).0
+-- no row has an origin yet
+no_origin : ForSome None IsOrigin
+no_origin origin is = absurd (none_some origin is)
+
+new_row : TableState → List Value → StoredRow
+new_row table row = record { number = table.next; row = row; owner = None }
+
+pub valid_added : (m : MachineState) (t : ℕ) (row : List Value) → IsValid m → t < length m.tables → Fits (table_at m.tables t).columns row → check_of (table_at m.tables t) row None ≡ check.New → IsValid (with_table m t (add_row (table_at m.tables t) row None))
 unfolding new_row
-valid_added m session t row valid inside fits left =
+valid_added m t row valid inside fits new =
     let table = table_at m.tables t in
-    let was = All-get_or IsValidTable m.tables t no_table inside valid.tables in
-    let more = add_row table row in
+    let was = All-get_or IsValidOpening m.tables t no_table inside valid.tables in
+    let more = add_row table row None in
     let key = λ (r : StoredRow). r.number in
     let none : found key table.next table.rows ≡ None = none_next key 0 table.next table.rows was.numbers in
     let owner = λ (o : Option StoredRow). option_and_then (λ (r : StoredRow). r.owner) o in
@@ -254,7 +237,7 @@ valid_added m session t row valid inside fits left =
       | inr apart ↦ owner_apart m t more q k apart
     ] in
     record {
-      tables = All-set IsValidTable m.tables t more (table-add_row table row fits left was) valid.tables;
+      tables = All-set IsValidOpening m.tables t (with_its m t more) (valid-added table row None was fits no_origin new) valid.tables;
       begins = valid.begins;
       sessions = valid.sessions;
       owns = λ s q k is. same q k ∙ valid.owns s q k is;

@@ -1,16 +1,18 @@
 -- Histories: which are legal, and what in them is settled.
 use Rattle.std.specs.Prelude.{◌≡◌, ◌==◌, ◌&&◌, ◌+◌, ◌^◌, ◌<◌, ◌≤◌, ℕ, Bool, true, false, List, [], ◌∷◌, ◌++◌, Option, None, Some, All, Any, fold, length, if◌then◌else◌}
+use Rattle.q4_def.specs.declared.table_def.TableDef.{TableDef}
 use Rattle.q4_machine.specs.declared.session.SessionMode.{SessionMode}
 use Rattle.q4_machine.specs.declared.session.SessionMode.TheVariants.{NonOwner, Empty, Owner}
 use Rattle.q4_machine.specs.declared.entry.Entry.{Entry}
 use Rattle.q4_machine.specs.declared.entry.Call.{Call}
 use Rattle.q4_machine.specs.declared.entry.Call.TheVariants.{Opened, Open, Insert, Look, End, Close, Sync}
 use Rattle.q4_machine.specs.declared.entry.Reply.{Reply}
-use Rattle.q4_machine.specs.declared.entry.Reply.TheVariants.{Done, Session, Added, Found, Nothing, Refused}
-use Rattle.q4_machine.specs.TableState.{TableState}
+use Rattle.q4_machine.specs.declared.entry.Reply.TheVariants.{Done, Session, Added, Seen, Found, Nothing, Refused}
+use Rattle.q4_machine.specs.declared.tables.Opening.{Opening}
+use Rattle.q4_machine.specs.Definitions.{definitions}
 use Rattle.q4_machine.specs.Machine.{MachineState, mode_of, IsSessionOpen}
 use Rattle.q4_machine.specs.Step.{step, MayStep}
-use Rattle.q4_machine.specs.Valid.{IsValidTable}
+use Rattle.q4_machine.specs.Valid.{AreValidTables}
 
 -- the machine before any entry
 abbrev pub nothing : MachineState
@@ -48,14 +50,37 @@ pub record IsNext (before : List Entry) (e : Entry) : Type 0 where
   pub caller : is_open e.call ≡ false → opener before e.session ≡ Some e.caller
   pub reply : e.reply ≡ (step (state_after before) e.session e.call).1
 
--- The first entry: valid tables in which nobody owns a row.
+-- Nobody owns a row.
+abbrev pub AreUnowned : List Opening → Type 0
+AreUnowned tables = All (λ opening. All (λ r. r.owner ≡ None) opening.table.rows) tables
+
+-- the tables of the first entry
+abbrev pub tables_of : Call → List Opening
+tables_of (Opened tables) = tables
+tables_of Open = []
+tables_of (Insert place row) = []
+tables_of (Look list) = []
+tables_of End = []
+tables_of Close = []
+tables_of Sync = []
+
+abbrev pub opened_tables : List Entry → List Opening
+opened_tables [] = []
+opened_tables (e ∷ es) = tables_of e.call
+
+-- the names and columns of a history's tables, which are those of its first entry for good
+abbrev pub definitions_of : List Entry → List TableDef
+definitions_of history = definitions (opened_tables history)
+
+-- The first entry: at most 16 valid tables in which nobody owns a row.
 pub record IsOpening (e : Entry) : Type 0 where
   pub caller : e.caller ≡ 0
   pub session : e.session ≡ 0
-  pub tables : List TableState
+  pub tables : List Opening
   pub call : e.call ≡ Opened tables
-  pub valid : All IsValidTable tables
-  pub unowned : All (λ table. All (λ r. r.owner ≡ None) table.rows) tables
+  pub few : length tables ≤ 16
+  pub valid : AreValidTables tables
+  pub unowned : AreUnowned tables
   pub reply : e.reply ≡ Done
 
 abbrev pub is_sync : Call → Bool
@@ -71,6 +96,7 @@ abbrev pub is_added : Reply → Bool
 is_added Done = false
 is_added (Session n) = false
 is_added (Added n) = true
+is_added (Seen n) = false
 is_added (Found n) = false
 is_added Nothing = false
 is_added (Refused refusal) = false

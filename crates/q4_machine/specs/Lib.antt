@@ -1,5 +1,4 @@
-pub mod Fits
-pub mod TableState
+pub mod Definitions
 pub mod Machine
 pub mod Pick
 pub mod Step

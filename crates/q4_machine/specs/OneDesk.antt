@@ -1,8 +1,9 @@
 -- What holds of a desk in memory.
-use Rattle.std.specs.Prelude.{◌≡◌, ℕ, Option, Some, None, [], ◌∷◌}
-use Rattle.q4_machine.specs.History.{IsSettled, SyncsAreOwed}
+use Rattle.std.specs.Prelude.{◌≡◌, ℕ, List, Option, Some, None, [], ◌∷◌}
+use Rattle.q4_def.specs.declared.table_def.TableDef.{TableDef}
+use Rattle.q4_machine.specs.History.{definitions_of, IsSettled, SyncsAreOwed}
 use Rattle.q4_machine.specs.Parts.{IsInOrder}
-use Rattle.q4_machine.specs.Recorded.{Recorded, DeskState, HasRoom, IsSound, opened_built_in}
+use Rattle.q4_machine.specs.Recorded.{Recorded, DeskState, HasRoom, IsSound, opened_new}
 
 -- The history is in order and by caller 0, all of it is settled by syncs that were owed, and there is room for the
 -- entry that closes the current session.
@@ -13,6 +14,11 @@ pub record IsDesk (recorded : Recorded) (current : Option ℕ) : Type 0 where
   pub owed : SyncsAreOwed recorded.seen
   pub room : (s : ℕ) → current ≡ Some s → HasRoom recorded 1
 
--- A new desk has the one entry of the empty built-in table, and no session.
-abbrev pub IsNew : DeskState → Type 0
-IsNew d = (d.seen ≡ opened_built_in ∷ []) × (d.current ≡ None)
+-- Its definitions are those of its history.
+pub record IsOneDesk (recorded : Recorded) (defs : List TableDef) (current : Option ℕ) : Type 0 where
+  pub desk : IsDesk recorded current
+  pub defined : definitions_of recorded.seen ≡ defs
+
+-- A new desk has the one entry of the empty tables, and no session.
+abbrev pub IsNew : List TableDef → DeskState → Type 0
+IsNew defs d = (d.seen ≡ opened_new defs ∷ []) × (d.current ≡ None)

@@ -9,12 +9,12 @@ use Rattle.q4_machine.specs.declared.entry.Refusal.TheVariants as refusal
 use Rattle.q4_machine.specs.declared.entry.Reply.{Reply}
 use Rattle.q4_machine.specs.declared.entry.Reply.TheVariants.{Done, Session}
 use Rattle.q4_machine.specs.declared.entry.Reply.TheVariants as reply
-use Rattle.q4_machine.specs.declared.table.Added.{Added}
-use Rattle.q4_machine.specs.declared.table.Added.TheVariants.{New}
+use Rattle.q4_table.specs.declared.adding.Added.{Added}
+use Rattle.q4_table.specs.declared.adding.Added.TheVariants.{New, Seen}
 use Rattle.q4_machine.specs.declared.desk.DeskFault.{DeskFault}
 use Rattle.q4_machine.specs.declared.desk.DeskFault.TheVariants.{Memory}
 use Rattle.q4_machine.specs.declared.desk.InsertFault.{InsertFault}
-use Rattle.q4_machine.specs.declared.desk.InsertFault.TheVariants.{Desk}
+use Rattle.q4_machine.specs.declared.desk.InsertFault.TheVariants.{Spent, Rows, Bytes, Desk}
 use Rattle.q4_machine.specs.declared.desk.ModeFault.{ModeFault}
 use Rattle.q4_machine.specs.declared.desk.ModeFault.TheVariants as fault
 use Rattle.q4_machine.specs.Machine.{mode_of}
@@ -32,6 +32,11 @@ calls_of caller history = filter (λ e. e.caller == caller && not (is_sync e.cal
 pub data Answer : Type 0 where
   Replied : Reply → Answer
   WantsMemory : Answer
+
+-- the reply of the call's entry, where there is one
+abbrev pub replied : Answer → Option Reply
+replied (Replied reply) = Some reply
+replied WantsMemory = None
 
 -- a look in owner mode ends first
 abbrev pub ends_first : Call → Option SessionMode → Bool
@@ -73,15 +78,18 @@ pub record IsPart (before grown : List Entry) (caller session : ℕ) (call : Cal
 abbrev pub Grows : List Entry → List Entry → (List Entry → Type 0) → Type 0
 Grows old new P = (grown : List Entry) × (new ≡ old ++ grown) × P grown
 
--- What holds before and after each call of a desk: the history is legal, over the one built-in table, and a
--- current session is open and was opened by the desk's caller.
+-- What holds before and after each call of a desk: the history is legal, and a current session is open and was
+-- opened by the desk's caller.
 pub record IsInOrder (seen : List Entry) (caller : ℕ) (current : Option ℕ) : Type 0 where
   pub legal : IsLegal seen
-  pub one_table : length (state_after seen).tables ≡ 1
   pub is_open : (s : ℕ) → current ≡ Some s → IsOpenFor seen caller s
 
 abbrev pub insert_answer : Result Added InsertFault → Answer
 insert_answer (Ok (New number)) = Replied (reply.Added number)
+insert_answer (Ok (Seen mark)) = Replied (reply.Seen mark)
+insert_answer (Err Spent) = Replied (reply.Refused refusal.Spent)
+insert_answer (Err Rows) = Replied (reply.Refused refusal.Rows)
+insert_answer (Err (Bytes sum)) = Replied (reply.Refused (refusal.Bytes sum))
 insert_answer (Err (Desk Memory)) = WantsMemory
 
 abbrev pub wait_answer : Result (Option ℕ) DeskFault → Answer

@@ -1,25 +1,32 @@
 -- What each call does to the machine, and what it is answered.
-use Rattle.std.specs.Prelude.{◌≡◌, ◌<◌, ◌+◌, ◌^◌, ℕ, List, [], ◌∷◌, ◌++◌, Option, None, Some, Result, Ok, Err, All, length, slice_set}
+use Rattle.std.specs.Prelude.{◌≡◌, ◌+◌, ℕ, List, [], ◌∷◌, ◌++◌, Option, None, Some, Result, Ok, Err, All, slice_set}
+use Rattle.std.specs.Option.{option_map}
 use Rattle.q4_value.specs.declared.row.Value.{Value}
-use Rattle.q4_machine.specs.declared.table.StoredRow.{StoredRow}
+use Rattle.q4_table.specs.declared.adding.Added as added
+use Rattle.q4_table.specs.declared.adding.Added.TheVariants.{New as NewRow, Seen as SeenRow}
+use Rattle.q4_table.specs.declared.adding.AddFault.{AddFault}
+use Rattle.q4_table.specs.declared.adding.AddFault.TheVariants as fault
+use Rattle.q4_table.specs.declared.adding.Check.{Check}
+use Rattle.q4_table.specs.declared.adding.Check.TheVariants as check
+use Rattle.q4_table.specs.declared.rows.StoredRow.{StoredRow}
+use Rattle.q4_table.specs.TableState.{TableState}
+use Rattle.q4_table.specs.Rows.{with_owner, without_row}
+use Rattle.q4_table.specs.Adding.{check_of, add_row}
 use Rattle.q4_machine.specs.declared.session.SessionMode.{SessionMode}
 use Rattle.q4_machine.specs.declared.session.SessionMode.TheVariants.{NonOwner, Empty, Owner}
-use Rattle.q4_machine.specs.declared.table.Added as added
-use Rattle.q4_machine.specs.declared.table.Added.TheVariants.{New}
 use Rattle.q4_machine.specs.declared.entry.Call.{Call}
 use Rattle.q4_machine.specs.declared.entry.Call.TheVariants.{Opened, Open, Insert, Look, End, Close, Sync}
 use Rattle.q4_machine.specs.declared.entry.Reply.{Reply}
-use Rattle.q4_machine.specs.declared.entry.Reply.TheVariants.{Done, Session, Added, Found, Nothing, Refused}
+use Rattle.q4_machine.specs.declared.entry.Reply.TheVariants.{Done, Session, Added, Seen, Found, Nothing, Refused}
 use Rattle.q4_machine.specs.declared.entry.Refusal.{Refusal}
-use Rattle.q4_machine.specs.declared.entry.Refusal.TheVariants.{NotOwner}
-use Rattle.q4_machine.specs.TableState.{TableState}
-use Rattle.q4_machine.specs.Machine.{MachineState, table_at, with_mode, without_session, with_owner, without_row, mode_of, IsSessionOpen}
+use Rattle.q4_machine.specs.declared.entry.Refusal.TheVariants.{NotOwner, Spent, Rows, Bytes}
+use Rattle.q4_machine.specs.Definitions.{definitions, IsRowFor, IsListed}
+use Rattle.q4_machine.specs.Machine.{MachineState, opening_at, table_at, with_mode, without_session, mode_of, IsSessionOpen}
 use Rattle.q4_machine.specs.Pick.{Picked, pick}
-use Rattle.q4_machine.specs.Fits.{RowFits}
 
 -- the machine with a table changed
 abbrev pub with_table : MachineState → ℕ → TableState → MachineState
-with_table m place table = record m { tables = slice_set m.tables place table }
+with_table m place table = record m { tables = slice_set m.tables place (record (opening_at m.tables place) { table = table }) }
 
 -- the machine with the rows of a table changed
 abbrev pub with_rows : MachineState → ℕ → (List StoredRow → List StoredRow) → MachineState
@@ -35,9 +42,13 @@ with_session m session mode = record m { sessions = with_mode session mode m.ses
 abbrev pub with_none : MachineState → ℕ → MachineState
 with_none m session = record m { sessions = without_session session m.sessions }
 
--- a new row has the table's next number and no owner
-abbrev pub add_row : TableState → List Value → TableState
-add_row table row = record { next = table.next + 1; rows = table.rows ++ record { number = table.next; row = row; owner = None } ∷ [] }
+-- an insert adds the row, or changes nothing where the check says so
+abbrev pub inserted : MachineState → ℕ → List Value → Check → MachineState × Reply
+inserted m place row check.New = (with_table m place (add_row (table_at m.tables place) row None), Added (table_at m.tables place).next)
+inserted m place row (check.Seen mark) = (m, Seen mark)
+inserted m place row check.Spent = (m, Refused Spent)
+inserted m place row check.Rows = (m, Refused Rows)
+inserted m place row (check.Bytes sum) = (m, Refused (Bytes sum))
 
 -- a look takes what it picks, and without that leaves the session in owner mode without a row
 abbrev pub looked : MachineState → ℕ → Option Picked → MachineState × Reply
@@ -61,27 +72,27 @@ closed m session None = (m, Done)
 abbrev pub step : MachineState → ℕ → Call → MachineState × Reply
 step m session (Opened tables) = (record { tables = tables; sessions = []; next_session = 1 }, Done)
 step m session Open = (record m { sessions = m.sessions ++ record { session = m.next_session; mode = NonOwner } ∷ []; next_session = m.next_session + 1 }, Session m.next_session)
-step m session (Insert place row) = (with_table m place (add_row (table_at m.tables place) row), Added (table_at m.tables place).next)
+step m session (Insert place row) = inserted m place row (check_of (table_at m.tables place) row None)
 step m session (Look list) = looked m session (pick m list)
 step m session End = ended m session (mode_of m session)
 step m session Close = closed m session (mode_of m session)
 step m session Sync = (m, Done)
 
--- row numbers stay below this one
-abbrev pub number_limit : ℕ
-number_limit = 2 ^ 62
-
--- What a call needs of the machine. An insert needs a number that is left.
+-- What a call needs of the machine.
 abbrev pub MayStep : MachineState → ℕ → Call → Type 0
 MayStep m session (Opened tables) = ⊥
 MayStep m session Open = session ≡ m.next_session
-MayStep m session (Insert place row) = IsSessionOpen m session × (place < length m.tables) × RowFits row × ((table_at m.tables place).next < number_limit)
-MayStep m session (Look list) = (mode_of m session ≡ Some NonOwner) × All (λ place. place < length m.tables) list
+MayStep m session (Insert place row) = IsSessionOpen m session × IsRowFor (definitions m.tables) place row
+MayStep m session (Look list) = (mode_of m session ≡ Some NonOwner) × All (IsListed (definitions m.tables)) list
 MayStep m session End = IsSessionOpen m session
 MayStep m session Close = IsSessionOpen m session
 MayStep m session Sync = IsSessionOpen m session
 
--- the replies to a look and an end, from what the machine's calls return
+-- the replies to an insert, a look and an end, from what the machine's calls return
+abbrev pub added_reply : added.Added → Reply
+added_reply (NewRow number) = Added number
+added_reply (SeenRow mark) = Seen mark
+
 abbrev pub look_reply : Option ℕ → Reply
 look_reply (Some place) = Found place
 look_reply None = Nothing
@@ -90,12 +101,21 @@ abbrev pub end_reply : Result (Option (ℕ × ℕ)) Refusal → Reply
 end_reply (Ok row) = Done
 end_reply (Err refusal) = Refused refusal
 
+-- the refusal that a row was not added for; want of memory is none
+abbrev pub add_refusal : AddFault → Option Refusal
+add_refusal fault.Spent = Some Spent
+add_refusal fault.Rows = Some Rows
+add_refusal (fault.Bytes sum) = Some (Bytes sum)
+add_refusal fault.Memory = None
+
+-- the reply to an insert, where it was not for want of memory
+abbrev pub insert_reply : Result added.Added (AddFault × List Value) → Option Reply
+insert_reply (Ok answer) = Some (added_reply answer)
+insert_reply (Err refused) = option_map Refused (add_refusal refused.0)
+
 -- the row that an end removes: none where the session owns none
 abbrev pub owned_row : Option SessionMode → Option (ℕ × ℕ)
 owned_row (Some (Owner place number)) = Some (place, number)
 owned_row (Some NonOwner) = None
 owned_row (Some Empty) = None
 owned_row None = None
-
-abbrev pub added_reply : added.Added → Reply
-added_reply (New number) = Added number

@@ -1,6 +1,7 @@
 ghost use Rattle.std.specs.Prelude.{◌≡◌, ◌≢◌, ◌++◌, ◌∷◌, [], ℕ, List};
 ghost use Rattle.q4_machine.specs.declared.entry.Entry.{Entry};
 ghost use Rattle.q4_machine.specs.declared.entry.Call.TheVariants as call;
+ghost use Rattle.q4_machine.specs.declared.looks.Listed.{Listed};
 ghost use Rattle.q4_machine.specs.Valid.{IsValid};
 ghost use Rattle.q4_machine.specs.History.{IsLegal, state_after};
 ghost use Rattle.q4_machine.specs.Looked.{LookAnswers};
@@ -16,11 +17,11 @@ pub fn reached_machines_are_valid(history: &[Entry])
     let _ = history;
 }
 
-/// A law: each look of a legal history was answered with the oldest row that nobody owned, of the earliest
-/// listed table that had any, and with none only where none had.
+/// A law: each look of a legal history was answered with the oldest row that nobody owned and that met the condition
+/// of the earliest entry of its list that any met, and with none only where none did.
 pub fn looks_take_the_oldest(history: &[Entry])
     requires { IsLegal history.now }
-    ensures { (front later : List Entry) (e : Entry) (list : List ℕ) → history.now ≡ front ++ e ∷ later → e.call ≡ call.Look list
+    ensures { (front later : List Entry) (e : Entry) (list : List Listed) → history.now ≡ front ++ e ∷ later → e.call ≡ call.Look list
         → LookAnswers (state_after front) (state_after (front ++ e ∷ [])) e.session list e.reply }
 {
     let _ = history;

@@ -4,19 +4,21 @@
 mod desk;
 mod entry;
 mod laws;
+mod looks;
 mod machine;
 mod one_desk;
 mod recorded;
 mod session;
-mod table;
+mod tables;
 
 pub use desk::{Desk, DeskFault, InsertFault, ModeFault};
-pub use entry::{Call, Entry, Looks, Refusal, Reply, Tables};
+pub use entry::{Call, Entry, Refusal, Reply};
 pub use laws::{looks_take_the_oldest, reached_machines_are_valid};
+pub use looks::{Listed, Looks};
 pub use machine::Machine;
 pub use one_desk::OneDesk;
 pub use session::{OpenSession, SessionMode};
-pub use table::{Added, StoredRow, Table};
+pub use tables::{Opening, Tables};
 
 #[cfg(test)]
 mod tests;

@@ -1,15 +1,18 @@
-ghost use Rattle.std.specs.Prelude.{◌≡◌, ◌<◌, ◌^◌, [], Some, None, All, length, IfOk, IfErr, OnOk, OnErr};
-ghost use Rattle.std.specs.Option.{option_map};
+ghost use Rattle.std.specs.Prelude.{◌≡◌, ◌<◌, ◌≤◌, ◌^◌, [], Some, None, All, length, IfOk, IfErr, OnOk, OnErr};
+ghost use Rattle.std.specs.Option.{option_map, ForSome};
+ghost use Rattle.q4_table.specs.Adding.{check_of};
 ghost use Rattle.q4_machine.specs.declared.entry.Call.TheVariants as call;
 ghost use Rattle.q4_machine.specs.declared.entry.Reply.TheVariants as reply;
+ghost use Rattle.q4_machine.specs.Definitions.{definitions, IsRowFor, IsListed};
 ghost use Rattle.q4_machine.specs.Machine.{mode_of, in_mode, with_mode, without_session, session_in, table_at, IsSessionOpen};
 ghost use Rattle.q4_machine.specs.Pick.{pick_from};
-ghost use Rattle.q4_machine.specs.Fits.{RowFits};
-ghost use Rattle.q4_machine.specs.Step.{step, look_reply, end_reply, added_reply, owned_row, number_limit};
-ghost use Rattle.q4_machine.specs.Valid.{IsValidTable};
+ghost use Rattle.q4_machine.specs.Step.{step, look_reply, end_reply, insert_reply, owned_row};
+ghost use Rattle.q4_machine.specs.Valid.{AreValidTables};
+ghost use Rattle.q4_machine.specs.History.{AreUnowned};
 ghost use Rattle.q4_machine.specs.Found.{picked_of};
 
-use crate::{Added, Looks, OpenSession, Refusal, SessionMode, Table, Tables};
+use crate::{Listed, Looks, OpenSession, Opening, Refusal, SessionMode, Tables};
+use q4_table::{AddFault, Added, Check, Table};
 use q4_value::{NoMemory, Row};
 use std::alloc::Global;
 use std::marker::Model;
@@ -20,7 +23,7 @@ const SESSION_LIMIT: u64 = 1 << 62;
 /// Tables of rows, and the sessions that are open. Each call is one step of the definitions.
 #[derive(Drop)]
 pub struct Machine {
-    tables: Vec<Table>,
+    tables: Vec<Opening>,
     sessions: Vec<OpenSession>,
     next_session: u64,
 }
@@ -38,16 +41,17 @@ impl Model for Machine {
 }
 
 impl Machine {
-    /// A machine over these tables, without a session.
+    /// A machine over these tables, at most 16, without a session.
     pub fn new(alloc: Global, tables: Tables) -> Result<Machine, (Tables, NoMemory)>
-        requires valid { All IsValidTable tables }
-        requires unowned { All (λ table. All (λ r. r.owner ≡ None) table.rows) tables }
+        requires few { length tables ≤ 16 }
+        requires valid { AreValidTables tables }
+        requires unowned { AreUnowned tables }
         ensures made { IfOk result (λ machine. machine ≡ record { tables = tables; sessions = []; next_session = 1 }) }
         ensures given_back { IfErr result (λ fault. fault.0 ≡ tables) }
     {
         match Vec::with_capacity(alloc, 1) {
             Ok(sessions) => Ok(Machine {
-                tables: tables.into_tables(),
+                tables: tables.into_openings(),
                 sessions,
                 next_session: 1,
             }),
@@ -88,31 +92,52 @@ impl Machine {
         }
     }
 
-    /// Adds a row to the table at this place. It also wants memory where the row numbers are used up.
-    pub fn insert(&mut self, session: u64, table: u32, row: Row) -> Result<Added, NoMemory>
-        requires is_open { IsSessionOpen self.old session }
-        requires place { table < length self.old.tables }
-        requires fits { RowFits row }
-        ensures added { IfOk result (λ added. step self.old session (call.Insert table row) ≡ (self.new, added_reply added)) }
-        ensures left { OnOk result ((table_at self.old.tables table).next < number_limit) }
-        ensures kept { OnErr result (self.new ≡ self.old) }
+    /// The table at this place, from 0.
+    pub fn table(&self, place: u32) -> &Table
+        requires { place < length self.now.tables }
+        ensures { result.now ≡ table_at self.now.tables place }
     {
-        let table = &mut self.tables[table as usize];
-        let added = table.add(row)?;
-        Ok(added)
+        &self.tables[place as usize].table
     }
 
-    /// Takes the oldest unowned row of the earliest listed table that has one, and tells the place in the list,
-    /// from 1. Without one the session is in owner mode without a row.
+    /// What an insert of the row into the table at this place would come to.
+    pub fn check(&self, session: u64, table: u32, row: &Row) -> Check
+        requires is_open { IsSessionOpen self.now session }
+        requires row { IsRowFor (definitions self.now.tables) table row.now }
+        ensures { result ≡ check_of (table_at self.now.tables table) row.now None }
+    {
+        let _ = session;
+        self.tables[table as usize].table.check(row, None)
+    }
+
+    /// Adds a row to the table at this place. A refusal gives the row back; only want of memory is no step.
+    pub fn insert(
+        &mut self,
+        session: u64,
+        table: u32,
+        row: Row,
+    ) -> Result<Added, (AddFault, Row)>
+        requires is_open { IsSessionOpen self.old session }
+        requires row { IsRowFor (definitions self.old.tables) table row }
+        ensures step { ForSome (insert_reply result) (λ reply. step self.old session (call.Insert table row) ≡ (self.new, reply)) }
+        ensures kept { OnErr result (self.new ≡ self.old) }
+        ensures given_back { IfErr result (λ fault. fault.1 ≡ row) }
+    {
+        let opening = &mut self.tables[table as usize];
+        opening.table.add(row, None)
+    }
+
+    /// Takes the oldest unowned row that meets the condition of the earliest entry of the list that has one, and tells
+    /// that entry's place, from 1. Without one the session is in owner mode without a row.
     pub fn look(&mut self, session: u64, list: &Looks) -> Option<u32>
         requires mode { mode_of self.old session ≡ Some SessionMode.NonOwner }
-        requires places { All (λ place. place < length self.old.tables) list.now }
+        requires listed { All (IsListed (definitions self.old.tables)) list.now }
         ensures { step self.old session (call.Look list.now) ≡ (self.new, look_reply result) }
     {
         match oldest_listed(&self.tables, list.as_slice()) {
             Some(found) => {
-                let table = &mut self.tables[found.table as usize];
-                table.own(found.number, session);
+                let opening = &mut self.tables[found.table as usize];
+                opening.table.own(found.number, session);
                 set_mode(
                     &mut self.sessions,
                     session,
@@ -132,6 +157,7 @@ impl Machine {
         requires { IsSessionOpen self.old session }
         ensures step { step self.old session call.End ≡ (self.new, end_reply result) }
         ensures removed { IfOk result (λ row. row ≡ owned_row (mode_of self.old session)) }
+        ensures refused { IfErr result (λ refusal. refusal ≡ Refusal.NotOwner) }
     {
         match self.mode(session) {
             SessionMode::NonOwner => Err(Refusal::NotOwner),
@@ -140,8 +166,8 @@ impl Machine {
                 Ok(None)
             }
             SessionMode::Owner(place, number) => {
-                let table = &mut self.tables[place as usize];
-                table.end(number);
+                let opening = &mut self.tables[place as usize];
+                opening.table.end(number);
                 set_mode(&mut self.sessions, session, SessionMode::NonOwner);
                 Ok(Some((place, number)))
             }
@@ -157,8 +183,8 @@ impl Machine {
             SessionMode::NonOwner => remove_session(&mut self.sessions, session),
             SessionMode::Empty => remove_session(&mut self.sessions, session),
             SessionMode::Owner(place, number) => {
-                let table = &mut self.tables[place as usize];
-                table.release(number);
+                let opening = &mut self.tables[place as usize];
+                opening.table.release(number);
                 remove_session(&mut self.sessions, session);
             }
         }
@@ -177,16 +203,16 @@ fn mode_in(sessions: &[OpenSession], session: u64) -> Option<SessionMode>
 fn set_mode(sessions: &mut Vec<OpenSession>, session: u64, mode: SessionMode)
     ensures { sessions.new.items ≡ with_mode session mode sessions.old.items }
 {
-    for open in sessions.iter_mut() {
-        set_if_session(open, session, mode);
+    for entry in sessions.iter_mut() {
+        set_if_session(entry, session, mode);
     }
 }
 
-fn set_if_session(open: &mut OpenSession, session: u64, mode: SessionMode)
-    ensures { open.new ≡ in_mode session mode open.old }
+fn set_if_session(entry: &mut OpenSession, session: u64, mode: SessionMode)
+    ensures { entry.new ≡ in_mode session mode entry.old }
 {
-    if open.session == session {
-        open.mode = mode;
+    if entry.session == session {
+        entry.mode = mode;
     }
 }
 
@@ -204,17 +230,17 @@ struct Found {
     number: u64,
 }
 
-// The oldest unowned row of the earliest listed table that has one.
-fn oldest_listed(tables: &[Table], list: &[u32]) -> Option<Found>
-    requires places { All (λ place. place < length tables.now) list.now }
+// The oldest unowned row that meets the condition of the earliest entry of the list that has one.
+fn oldest_listed(tables: &[Opening], list: &[Listed]) -> Option<Found>
+    requires listed { All (IsListed (definitions tables.now)) list.now }
     requires short { length list.now < 2 ^ 32 }
     ensures { option_map picked_of result ≡ pick_from tables.now 1 list.now }
 {
-    for (i, table) in list.iter().enumerate() {
-        if let Some(number) = tables[*table as usize].oldest() {
+    for (i, listed) in list.iter().enumerate() {
+        if let Some(number) = tables[listed.table as usize].table.oldest(&listed.cond) {
             return Some(Found {
                 place: i as u32 + 1,
-                table: *table,
+                table: listed.table,
                 number,
             });
         }

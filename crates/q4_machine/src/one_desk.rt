@@ -4,39 +4,49 @@ ghost use Rattle.q4_machine.specs.Recorded.{IsSound};
 ghost use Rattle.q4_machine.specs.OneDesk.{IsNew};
 
 use crate::recorded::RecordedMachine;
-use crate::{Added, Desk, DeskFault, Entry, InsertFault, Looks, ModeFault, SessionMode};
+use crate::{Desk, DeskFault, Entry, InsertFault, Looks, ModeFault, SessionMode};
+use q4_def::Defs;
+use q4_table::Added;
 use q4_value::{NoMemory, Row};
 use std::alloc::Global;
 use std::marker::Model;
 
-/// A desk in memory, over the built-in table. It stores its history.
+/// A desk in memory. It stores its history.
 #[derive(Drop)]
 pub struct OneDesk {
     alloc: Global,
     recorded: RecordedMachine,
+    defs: Defs,
     current: Option<u64>,
 }
 
 impl Model for OneDesk {
     ghost use Rattle.q4_machine.specs.Recorded.{DeskState};
 
+    ghost use Rattle.q4_machine.specs.contracts.entry.Entry as entry;
+    ghost use Rattle.std.specs.Coded.{codes};
+
     ghost Value = { DeskState };
 
-    ghost use Rattle.q4_machine.specs.OneDesk.{IsDesk};
+    ghost coded = { Prim.hlevel (codes, entry.the_row.coded) };
+
+    ghost use Rattle.q4_machine.specs.OneDesk.{IsOneDesk};
 
     ghost view = { λ d. record { seen = d.recorded.seen; current = d.current } };
 
-    ghost invariant = { λ d. IsDesk d.recorded d.current };
+    ghost invariant = { λ d. IsOneDesk d.recorded d.defs d.current };
 }
 
 impl OneDesk {
-    /// A desk over the empty built-in table, without a session.
-    pub fn new(alloc: Global) -> Result<OneDesk, NoMemory>
-        ensures { IfOk result IsNew }
+    /// A desk over empty tables of these definitions, without a session.
+    pub fn new(alloc: Global, defs: Defs) -> Result<OneDesk, NoMemory>
+        ensures { IfOk result (IsNew defs) }
     {
+        let recorded = RecordedMachine::new(alloc, &defs)?;
         Ok(OneDesk {
             alloc,
-            recorded: RecordedMachine::new(alloc)?,
+            recorded,
+            defs,
             current: None,
         })
     }
@@ -61,6 +71,10 @@ impl Desk for OneDesk {
 
     ghost current = { λ d. d.current };
 
+    fn defs(&self) -> &Defs {
+        &self.defs
+    }
+
     fn open(&mut self) -> Result<u64, DeskFault> {
         self.recorded.reserve(2)?;
         let session = self.recorded.open()?;
@@ -79,11 +93,12 @@ impl Desk for OneDesk {
             return Err(InsertFault::Desk(fault));
         }
         match self.recorded.insert(session, table, row, copy) {
-            Ok(added) => {
+            Ok(Added::New(number)) => {
                 self.recorded.sync(session);
-                Ok(added)
+                Ok(Added::New(number))
             }
-            Err(fault) => Err(InsertFault::Desk(fault)),
+            Ok(Added::Seen(mark)) => Ok(Added::Seen(mark)),
+            Err(fault) => Err(fault),
         }
     }
 

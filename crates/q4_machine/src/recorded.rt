@@ -1,15 +1,19 @@
-ghost use Rattle.std.specs.Prelude.{◌≡◌, ◌≤◌, ◌<◌, [], ◌∷◌, Some, All, IfOk, OnOk, OnErr, is_some};
+ghost use Rattle.std.specs.Prelude.{◌≡◌, ◌≤◌, ◌<◌, [], ◌∷◌, Some, All, IfOk, IfErr, OnOk, OnErr, is_some};
+ghost use Rattle.q4_def.specs.Tables.{AreDefs};
 ghost use Rattle.q4_machine.specs.declared.entry.Call.TheVariants as call;
 ghost use Rattle.q4_machine.specs.declared.entry.Reply.TheVariants as reply;
-ghost use Rattle.q4_machine.specs.Fits.{RowFits};
+ghost use Rattle.q4_machine.specs.Definitions.{IsRowFor, IsListed};
 ghost use Rattle.q4_machine.specs.Machine.{mode_of};
-ghost use Rattle.q4_machine.specs.Step.{look_reply, end_reply, added_reply};
-ghost use Rattle.q4_machine.specs.History.{state_after, is_owner, IsOpenFor};
-ghost use Rattle.q4_machine.specs.Recorded.{pushed, opened_built_in, HasRoom, IsSound};
+ghost use Rattle.q4_machine.specs.Step.{look_reply, end_reply, insert_reply};
+ghost use Rattle.q4_machine.specs.Parts.{insert_answer, replied};
+ghost use Rattle.q4_machine.specs.History.{state_after, definitions_of, is_owner, IsOpenFor};
+ghost use Rattle.q4_machine.specs.Recorded.{pushed, answered, opened_new, HasRoom, IsSound};
 
 use crate::{
-    Added, Call, DeskFault, Entry, Looks, Machine, Refusal, Reply, SessionMode, Table, Tables,
+    Call, DeskFault, Entry, InsertFault, Looks, Machine, Refusal, Reply, SessionMode, Tables,
 };
+use q4_def::Defs;
+use q4_table::{AddFault, Added};
 use q4_value::{NoMemory, Row};
 use std::alloc::Global;
 use std::marker::Model;
@@ -28,7 +32,12 @@ impl Model for RecordedMachine {
     ghost use Rattle.std.specs.Prelude.{vec_capacity};
     ghost use Rattle.q4_machine.specs.Recorded.{Recorded};
 
+    ghost use Rattle.q4_machine.specs.contracts.entry.Entry as entry;
+    ghost use Rattle.std.specs.Coded.{codes};
+
     ghost Value = { Recorded };
+
+    ghost coded = { Prim.hlevel (codes, entry.the_row.coded) };
 
     ghost use Rattle.q4_machine.specs.Recorded.{IsRecorded};
 
@@ -38,19 +47,21 @@ impl Model for RecordedMachine {
 }
 
 impl RecordedMachine {
-    /// A machine over the empty built-in table.
-    pub fn new(alloc: Global) -> Result<RecordedMachine, NoMemory>
-        ensures seen { IfOk result (λ recorded. recorded.seen ≡ opened_built_in ∷ []) }
+    /// A machine over empty tables of these definitions.
+    pub fn new(alloc: Global, defs: &Defs) -> Result<RecordedMachine, NoMemory>
+        ensures seen { IfOk result (λ recorded. recorded.seen ≡ opened_new defs.now ∷ []) }
         ensures sound { IfOk result (λ recorded. IsSound recorded.seen) }
+        ensures defined { IfOk result (λ recorded. definitions_of recorded.seen ≡ defs.now) }
     {
-        let machine = match Machine::new(alloc, built_in_tables(alloc)?) {
+        let _count = defs.len();
+        let machine = match Machine::new(alloc, Tables::of_definitions(alloc, defs)?) {
             Ok(machine) => machine,
             Err((_, fault)) => return Err(fault),
         };
         let opened = Entry {
             caller: 0,
             session: 0,
-            call: Call::Opened(built_in_tables(alloc)?),
+            call: Call::Opened(Tables::of_definitions(alloc, defs)?),
             reply: Reply::Done,
         };
         let mut history = Vec::new(alloc);
@@ -95,6 +106,7 @@ impl RecordedMachine {
         ensures opened { IfOk result (λ s. self.new ≡ pushed self.old s call.Open (reply.Session s)) }
         ensures is_open { IfOk result (λ s. IsOpenFor self.new.seen 0 s) }
         ensures sound { IsSound self.new.seen }
+        ensures defined { definitions_of self.new.seen ≡ definitions_of self.old.seen }
         ensures kept { OnErr result (self.new ≡ self.old) }
     {
         match self.machine.open() {
@@ -107,32 +119,31 @@ impl RecordedMachine {
         }
     }
 
-    /// The copy of the row stands in the history.
+    /// The copy of the row stands in the history. Want of memory leaves no entry.
     pub fn insert(
         &mut self,
         session: u64,
         table: u32,
         row: Row,
         copy: Row,
-    ) -> Result<Added, DeskFault>
+    ) -> Result<Added, InsertFault>
         requires room { HasRoom self.old 1 }
         requires is_open { IsOpenFor self.old.seen 0 session }
-        requires place { table < 1 }
-        requires fits { RowFits row }
+        requires row { IsRowFor (definitions_of self.old.seen) table row }
         requires copy { copy ≡ row }
-        ensures added { IfOk result (λ added. self.new ≡ pushed self.old session (call.Insert table row) (added_reply added)) }
-        ensures is_open { OnOk result (IsOpenFor self.new.seen 0 session) }
+        ensures entry { self.new ≡ answered self.old session (call.Insert table row) (insert_answer result) }
+        ensures is_open { IsOpenFor self.new.seen 0 session }
         ensures sound { IsSound self.new.seen }
-        ensures kept { OnErr result (self.new ≡ self.old) }
+        ensures defined { definitions_of self.new.seen ≡ definitions_of self.old.seen }
     {
-        match self.machine.insert(session, table, row) {
-            Ok(added) => {
-                let reply = added_outcome(added);
+        let answer = desk_answer(self.machine.insert(session, table, row));
+        match reply_of(&answer) {
+            Some(reply) => {
                 self.history
                     .push_reserved(entry(session, Call::Insert(table, copy), reply));
-                Ok(added)
+                answer
             }
-            Err(NoMemory) => Err(DeskFault::Memory),
+            None => answer,
         }
     }
 
@@ -141,10 +152,11 @@ impl RecordedMachine {
         requires room { HasRoom self.old 1 }
         requires is_open { IsOpenFor self.old.seen 0 session }
         requires mode { mode_of (state_after self.old.seen) session ≡ Some SessionMode.NonOwner }
-        requires places { All (λ place. place < 1) list }
+        requires listed { All (IsListed (definitions_of self.old.seen)) list }
         ensures looked { self.new ≡ pushed self.old session (call.Look list) (look_reply result) }
         ensures is_open { IsOpenFor self.new.seen 0 session }
         ensures sound { IsSound self.new.seen }
+        ensures defined { definitions_of self.new.seen ≡ definitions_of self.old.seen }
     {
         let place = self.machine.look(session, &list);
         self.history
@@ -159,9 +171,11 @@ impl RecordedMachine {
         ensures ended { self.new ≡ pushed self.old session call.End (end_reply result) }
         ensures removed { IfOk result (λ row. is_some row ≡ is_owner (mode_of (state_after self.old.seen) session)) }
         ensures refused { OnErr result (mode_of (state_after self.old.seen) session ≡ Some SessionMode.NonOwner) }
+        ensures refusal { IfErr result (λ refusal. refusal ≡ Refusal.NotOwner) }
         ensures is_open { IsOpenFor self.new.seen 0 session }
         ensures mode { mode_of (state_after self.new.seen) session ≡ Some SessionMode.NonOwner }
         ensures sound { IsSound self.new.seen }
+        ensures defined { definitions_of self.new.seen ≡ definitions_of self.old.seen }
     {
         let ended = self.machine.end(session);
         self.history
@@ -174,6 +188,7 @@ impl RecordedMachine {
         requires is_open { IsOpenFor self.old.seen 0 session }
         ensures closed { self.new ≡ pushed self.old session call.Close reply.Done }
         ensures sound { IsSound self.new.seen }
+        ensures defined { definitions_of self.new.seen ≡ definitions_of self.old.seen }
     {
         self.machine.close(session);
         self.history
@@ -187,20 +202,10 @@ impl RecordedMachine {
         ensures synced { self.new ≡ pushed self.old session call.Sync reply.Done }
         ensures is_open { IsOpenFor self.new.seen 0 session }
         ensures sound { IsSound self.new.seen }
+        ensures defined { definitions_of self.new.seen ≡ definitions_of self.old.seen }
     {
         self.history
             .push_reserved(entry(session, Call::Sync, Reply::Done));
-    }
-}
-
-// The empty built-in table.
-fn built_in_tables(alloc: Global) -> Result<Tables, NoMemory>
-    ensures { IfOk result (λ tables. tables ≡ record { next = 1; rows = [] } ∷ []) }
-{
-    let mut tables = Tables::new(alloc);
-    match tables.push(Table::new(alloc)) {
-        Ok(()) => Ok(tables),
-        Err((_, fault)) => Err(fault),
     }
 }
 
@@ -215,11 +220,30 @@ fn entry(session: u64, call: Call, reply: Reply) -> Entry
     }
 }
 
-fn added_outcome(added: Added) -> Reply
-    ensures { result ≡ added_reply added }
+// What a desk answers, from what the machine did.
+fn desk_answer(answer: Result<Added, (AddFault, Row)>) -> Result<Added, InsertFault>
+    ensures { replied (insert_answer result) ≡ insert_reply answer }
 {
-    match added {
-        Added::New(number) => Reply::Added(number),
+    match answer {
+        Ok(added) => Ok(added),
+        Err((AddFault::Spent, _)) => Err(InsertFault::Spent),
+        Err((AddFault::Rows, _)) => Err(InsertFault::Rows),
+        Err((AddFault::Bytes(sum), _)) => Err(InsertFault::Bytes(sum)),
+        Err((AddFault::Memory, _)) => Err(InsertFault::Desk(DeskFault::Memory)),
+    }
+}
+
+// The reply that the history keeps of an insert; none where memory was wanted.
+fn reply_of(answer: &Result<Added, InsertFault>) -> Option<Reply>
+    ensures { result ≡ replied (insert_answer answer.now) }
+{
+    match answer {
+        Ok(Added::New(number)) => Some(Reply::Added(*number)),
+        Ok(Added::Seen(mark)) => Some(Reply::Seen(*mark)),
+        Err(InsertFault::Spent) => Some(Reply::Refused(Refusal::Spent)),
+        Err(InsertFault::Rows) => Some(Reply::Refused(Refusal::Rows)),
+        Err(InsertFault::Bytes(sum)) => Some(Reply::Refused(Refusal::Bytes(*sum))),
+        Err(InsertFault::Desk(DeskFault::Memory)) => None,
     }
 }
 

@@ -1,8 +1,9 @@
 use Rattle.std.proofs.Common.{◌≡◌, Some, sym, subst, arith}
 use Rattle.q4_machine.specs.declared.session.SessionMode.TheVariants.{NonOwner, Empty, Owner}
-use Rattle.q4_machine.specs.Machine.{MachineState, mode_of}
+use Rattle.q4_table.specs.Rows.{row_in}
+use Rattle.q4_machine.specs.Machine.{MachineState, table_at, mode_of}
 use Rattle.q4_machine.proofs.Steps.{valid_quiet, valid_removed, owned_inside, not_owner, not_empty}
-use Rattle.q4_machine.proofs.Looking.{indexed}
+use Rattle.q4_machine.proofs.Looking.{indexed, owner_there}
 use Rattle.q4_machine.proofs.machine.Machine.end.Goals as goal
 
 pub invariant_of-self : goal.invariant_of-self
@@ -11,8 +12,8 @@ invariant_of-self c =
     let was = subst (λ (x : MachineState). mode_of x c.args.session ≡ Some Empty) (sym c.self.view_is) c.in-Empty.ensures in
     rw c.set_mode.ensures (valid_quiet m c.args.session Empty NonOwner c.self.invariant was not_empty not_owner)
 
-pub index_mut-table-requires : goal.index_mut-table-requires
-index_mut-table-requires c =
+pub index_mut-opening-requires : goal.index_mut-opening-requires
+index_mut-opening-requires c =
     let m : MachineState = record { tables = c.self.inside.tables.items; sessions = c.self.inside.sessions.items; next_session = c.self.inside.next_session } in
     let was = subst (λ (x : MachineState). mode_of x c.args.session ≡ Some (Owner c.in-Owner.place c.in-Owner.number)) (sym c.self.view_is) c.in-Owner.ensures in
     let inside = owned_inside m c.in-Owner.place c.in-Owner.number c.args.session (c.self.invariant.owns c.args.session c.in-Owner.place c.in-Owner.number was) in
@@ -23,5 +24,14 @@ invariant_of-self-in-Owner c =
     let m : MachineState = record { tables = c.self.inside.tables.items; sessions = c.self.inside.sessions.items; next_session = c.self.inside.next_session } in
     let was = subst (λ (x : MachineState). mode_of x c.args.session ≡ Some (Owner c.in-Owner.place c.in-Owner.number)) (sym c.self.view_is) c.in-Owner.ensures in
     let inside = owned_inside m c.in-Owner.place c.in-Owner.number c.args.session (c.self.invariant.owns c.args.session c.in-Owner.place c.in-Owner.number was) in
-    let table = indexed c.self.inside.tables.items c.in-Owner.place c.index_mut-table.result.now inside.0 c.index_mut-table.ensures.value in
+    let table = indexed c.self.inside.tables.items c.in-Owner.place c.index_mut-opening.result.now inside.0 c.index_mut-opening.ensures.value in
     rw (c.end.ensures, c.set_mode-in-Owner.ensures, table) (valid_removed m c.args.session c.in-Owner.place c.in-Owner.number c.self.invariant was)
+
+pub end-requires : goal.end-requires
+end-requires c =
+    let m : MachineState = record { tables = c.self.inside.tables.items; sessions = c.self.inside.sessions.items; next_session = c.self.inside.next_session } in
+    let was = subst (λ (x : MachineState). mode_of x c.args.session ≡ Some (Owner c.in-Owner.place c.in-Owner.number)) (sym c.self.view_is) c.in-Owner.ensures in
+    let owns = c.self.invariant.owns c.args.session c.in-Owner.place c.in-Owner.number was in
+    let inside = owned_inside m c.in-Owner.place c.in-Owner.number c.args.session owns in
+    let opening = indexed c.self.inside.tables.items c.in-Owner.place c.index_mut-opening.result.now inside.0 c.index_mut-opening.ensures.value in
+    rw opening (owner_there (row_in (table_at m.tables c.in-Owner.place).rows c.in-Owner.number) c.args.session owns)

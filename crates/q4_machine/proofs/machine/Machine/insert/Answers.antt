@@ -1,23 +1,27 @@
-use Rattle.std.proofs.Common.{◌<◌, length, sym, subst}
-use Rattle.q4_machine.specs.TableState.{TableState}
-use Rattle.q4_machine.specs.Machine.{MachineState, table_at}
-use Rattle.q4_machine.specs.Step.{number_limit}
-use Rattle.q4_machine.proofs.Steps.{valid_added}
+use Rattle.std.proofs.Common.{◌≡◌, Some, sym, subst}
+use Rattle.q4_machine.specs.declared.entry.Call.TheVariants.{Insert}
+use Rattle.q4_machine.specs.declared.entry.Reply.{Reply}
+use Rattle.q4_machine.specs.declared.tables.Opening.{Opening}
+use Rattle.q4_machine.specs.Definitions.{definitions, IsRowFor}
+use Rattle.q4_machine.specs.Machine.{MachineState}
+use Rattle.q4_machine.specs.Step.{step, insert_reply}
+use Rattle.q4_machine.proofs.Defined.{inside_tables}
+use Rattle.q4_machine.proofs.Inserting.{Adds, insert_valid, insert_step}
 use Rattle.q4_machine.proofs.Looking.{indexed}
 use Rattle.q4_machine.proofs.machine.Machine.insert.Goals as goal
 
-pub invariant_of-self-2 : goal.invariant_of-self-2
-invariant_of-self-2 c =
+pub invariant_of-self : goal.invariant_of-self
+invariant_of-self c =
     let m : MachineState = record { tables = c.self.inside.tables.items; sessions = c.self.inside.sessions.items; next_session = c.self.inside.next_session } in
-    let inside : c.args.table < length m.tables = subst (λ (x : MachineState). c.args.table < length x.tables) (sym c.self.view_is) c.requires.place in
-    let table = indexed c.self.inside.tables.items c.args.table c.index_mut-table.result.now inside c.index_mut-table.ensures.value in
-    let left : (table_at m.tables c.args.table).next < number_limit = subst (λ (t : TableState). t.next < number_limit) table c.in_ok-added.ensures.left in
-    rw (c.in_ok-added.ensures.added.0, table) (valid_added m c.args.session c.args.table c.args.row c.self.invariant inside c.requires.fits left)
+    let for_it = subst (λ (x : MachineState). IsRowFor (definitions x.tables) c.args.table c.args.row) (sym c.self.view_is) c.requires.row in
+    let opening = indexed c.self.inside.tables.items c.args.table c.index_mut-opening.result.now (inside_tables m.tables c.args.table for_it.inside) c.index_mut-opening.ensures.value in
+    let adds = subst (λ (o : Opening). Adds o.table c.args.row c.add.new.self c.add.result) opening (record { added = c.add.ensures.added; table_is = c.add.ensures.table; refused = c.add.ensures.refused; kept = c.add.ensures.kept }) in
+    rw opening (insert_valid m c.args.table c.args.row c.add.new.self c.add.result c.self.invariant for_it adds)
 
-pub returns-clause-left : goal.returns-clause-left
-returns-clause-left c =
+pub returns-clause-step : goal.returns-clause-step
+returns-clause-step c =
     let m : MachineState = record { tables = c.self.inside.tables.items; sessions = c.self.inside.sessions.items; next_session = c.self.inside.next_session } in
-    let inside : c.args.table < length m.tables = subst (λ (x : MachineState). c.args.table < length x.tables) (sym c.self.view_is) c.requires.place in
-    let table = indexed c.self.inside.tables.items c.args.table c.index_mut-table.result.now inside c.index_mut-table.ensures.value in
-    let left : (table_at m.tables c.args.table).next < number_limit = subst (λ (t : TableState). t.next < number_limit) table c.in_ok-added.ensures.left in
-    subst (λ (x : MachineState). (table_at x.tables c.args.table).next < number_limit) c.self.view_is left
+    let for_it = subst (λ (x : MachineState). IsRowFor (definitions x.tables) c.args.table c.args.row) (sym c.self.view_is) c.requires.row in
+    let opening = indexed c.self.inside.tables.items c.args.table c.index_mut-opening.result.now (inside_tables m.tables c.args.table for_it.inside) c.index_mut-opening.ensures.value in
+    let adds = subst (λ (o : Opening). Adds o.table c.args.row c.add.new.self c.add.result) opening (record { added = c.add.ensures.added; table_is = c.add.ensures.table; refused = c.add.ensures.refused; kept = c.add.ensures.kept }) in
+    rw (opening, ← c.self.view_is) (insert_step m c.args.session c.args.table c.args.row c.add.new.self c.add.result adds)

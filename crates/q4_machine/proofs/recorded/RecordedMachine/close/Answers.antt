@@ -1,7 +1,7 @@
 use Rattle.std.proofs.Common.{sym, subst}
 use Rattle.q4_machine.specs.History.{IsOpenFor}
 use Rattle.q4_machine.specs.Recorded.{Recorded, HasRoom}
-use Rattle.q4_machine.proofs.Recording.{close_recorded}
+use Rattle.q4_machine.proofs.Recording.{defined_push, close_recorded}
 use Rattle.q4_machine.proofs.recorded.RecordedMachine.close.Goals as goal
 
 pub invariant_of-self : goal.invariant_of-self
@@ -17,3 +17,7 @@ returns-clause-sound c =
     let room = subst (λ (r : Recorded). HasRoom r 1) (sym c.self.view_is) c.requires.room in
     let recorded = close_recorded c.self.inside.machine c.close.new.self c.self.inside.history.items c.args.session c.self.invariant c.close.ensures was room.1 in
     rw (c.push_reserved.ensures.items, c.entry.ensures) recorded.sound
+
+pub returns-clause-defined : goal.returns-clause-defined
+returns-clause-defined c =
+    rw (c.push_reserved.ensures.items, c.entry.ensures, ← c.self.view_is) (defined_push c.self.inside.history.items _ c.self.invariant.sound.legal)

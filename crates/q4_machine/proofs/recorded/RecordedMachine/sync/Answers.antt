@@ -1,7 +1,7 @@
 use Rattle.std.proofs.Common.{sym, subst}
 use Rattle.q4_machine.specs.History.{IsOpenFor}
 use Rattle.q4_machine.specs.Recorded.{Recorded, HasRoom}
-use Rattle.q4_machine.proofs.Recording.{sync_goes}
+use Rattle.q4_machine.proofs.Recording.{defined_push, sync_goes}
 use Rattle.q4_machine.proofs.recorded.RecordedMachine.sync.Goals as goal
 
 pub invariant_of-self : goal.invariant_of-self
@@ -24,3 +24,7 @@ returns-clause-sound c =
     let room = subst (λ (r : Recorded). HasRoom r 1) (sym c.self.view_is) c.requires.room in
     let goes = sync_goes c.self.inside.machine c.self.inside.history.items c.args.session c.self.invariant was room.1 in
     rw (c.push_reserved.ensures.items, c.entry.ensures) goes.recorded.sound
+
+pub returns-clause-defined : goal.returns-clause-defined
+returns-clause-defined c =
+    rw (c.push_reserved.ensures.items, c.entry.ensures, ← c.self.view_is) (defined_push c.self.inside.history.items _ c.self.invariant.sound.legal)
