@@ -1,3 +1,5 @@
 pub mod Naming
 pub mod Forms
 pub mod Growing
+pub mod ColumnLaws
+pub mod DefLaws
