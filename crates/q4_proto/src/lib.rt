@@ -2,6 +2,7 @@
 #![tactic(auto)]
 
 mod command;
+mod fields;
 mod line_buffer;
 mod reply;
 

@@ -1,5 +1,5 @@
 -- A text that is made again escape by escape.
-use Rattle.std.proofs.Common.{◌≡◌, ℕ, ◌+◌, ◌-◌, ◌<◌, ◌≤◌, true, ◌||◌, ◌==◌, List, [], ◌∷◌, ◌++◌, length, get_or, take, drop, sym, ap, subst, ◌∙◌, append_assoc, inl, inr, arith}
+use Rattle.std.proofs.Common.{◌≡◌, ℕ, ◌+◌, ◌-◌, ◌<◌, ◌≤◌, true, ◌||◌, ◌==◌, List, [], ◌∷◌, ◌++◌, length, get_or, take, drop, refl, sym, ap, subst, ◌∙◌, append_assoc, inl, inr, arith}
 use Rattle.std.specs.List.{All}
 use Rattle.std.specs.Str.{IsUtf8, IsCharBoundary}
 use Rattle.std.proofs.lemmas.Bool.{or_cases, eqb-true}
@@ -10,6 +10,8 @@ use Rattle.std.proofs.lemmas.List.Elements.{All-take, All-drop}
 use Rattle.memchr.specs.Find.{Nowhere, NoneBefore, Passes, is_byte, is_byte3}
 use Rattle.q4_value.specs.declared.escaping.EscapeFault.{EscapeFault}
 use Rattle.q4_value.specs.declared.escaping.EscapeFault.TheVariants as fault
+use Rattle.std.proofs.Math.Seq.{get_or-append_seam}
+use Rattle.q4_value.proofs.EscapeLaws.{escaped_in_field}
 use Rattle.q4_value.proofs.Rows.{parted}
 use Rattle.q4_value.proofs.Runs.{plain as plain_run, plain_before, plain_nowhere}
 use Rattle.q4_value.specs.Escape.{escaped_byte, escaped, IsFieldByte, NoLetter, IsBadStart, BadAt, UnescapeFails}
@@ -139,3 +141,18 @@ cut_is_bad text run words at cut read len = record {
   place = sym len ∙ ap length read;
   bad = inl cut.cuts;
 }
+
+-- ## Whether a text is a spelling
+
+-- a text with a raw TAB, newline or byte 13 is none
+pub raw_is_none : (text : List ℕ) (at : ℕ) → NoneBefore (Passes (is_byte3 9 10 13) text) 0 (length text) at × Passes (is_byte3 9 10 13) text at → (words : List ℕ) → text ≡ escaped words → ⊥
+raw_is_none text at found words is =
+    let cut = cut_off text text (take at text) at refl found refl in
+    let seam : get_or text (length (take at text)) 0 ≡ cut.byte = ap (λ x. get_or x (length (take at text)) 0) cut.text_is ∙ get_or-append_seam (take at text) cut.byte cut.more 0 in
+    let inside : length (take at text) < length text = omega (arith, ap length cut.text_is, length-append (take at text) (cut.byte ∷ cut.more)) in
+    let field : IsFieldByte (get_or text (length (take at text)) 0) = subst (All IsFieldByte) (sym is) (escaped_in_field words) (length (take at text)) 0 inside in
+    cut.cuts (subst IsFieldByte seam field)
+
+-- the run up to a backslash and what stands from it on
+pub run_parts : (rest : List ℕ) (at : ℕ) → All IsFieldByte rest → NoneBefore (Passes (is_byte 92) rest) 0 (length rest) at → escaped (take at rest) ≡ take at rest
+run_parts rest at in_field found = plain_run (take at rest) (All-take IsFieldByte at rest in_field) (plain_before rest at found.before)

@@ -1,4 +1,5 @@
 ghost use Rattle.std.specs.Prelude.{◌≡◌, ◌<◌, ◌≤◌, ◌⊎◌, [], ◌∷◌, ◌++◌, ℕ, List, length, take, slice_get, slice_index, string_bytes, Some, All, OnOk, OnErr, IfOk, IfErr, IfSome, IfNone};
+ghost use Rattle.std.specs.Bool.{OnTrue, OnFalse};
 ghost use Rattle.q4_value.specs.Escape.{escaped_byte, escaped, IsFieldByte, IsBadStart, UnescapeFails};
 
 use crate::NoMemory;
@@ -133,6 +134,35 @@ fn put_character(made: &mut String, plain: &str, character: char) -> Result<(), 
         return Err(EscapeFault::Memory);
     }
     Ok(())
+}
+
+/// Whether the text is the escaped spelling of any. It takes no memory.
+pub fn is_escaped(text: &str) -> bool
+    ensures spelled { OnTrue result ((words : List ℕ) × (text.now ≡ escaped words)) }
+    ensures bad { OnFalse result ((words : List ℕ) → text.now ≡ escaped words → ⊥) }
+{
+    let bytes = text.as_bytes();
+    match memchr3(b'\t', b'\n', b'\r', bytes) {
+        Some(_) => false,
+        None => is_escaped_run(bytes),
+    }
+}
+
+// The same of a text without TAB, newline and byte 13.
+fn is_escaped_run(run: &[u8]) -> bool
+    requires { All IsFieldByte run.now }
+    ensures spelled { OnTrue result ((words : List ℕ) × (run.now ≡ escaped words)) }
+    ensures bad { OnFalse result ((words : List ℕ) → run.now ≡ escaped words → ⊥) }
+{
+    let mut rest = run;
+    while let Some(at) = memchr(b'\\', rest) {
+        let escape = &rest[at..];
+        let Some(_character) = escaped_character(escape) else {
+            return false;
+        };
+        rest = &escape[2..];
+    }
+    true
 }
 
 // What the escape at the front stands for.

@@ -16,7 +16,7 @@ mod writing;
 pub use bytes::Bytes;
 pub use column::{Column, Kind};
 pub use columns::Columns;
-pub use escaping::{EscapeFault, escape, unescape};
+pub use escaping::{EscapeFault, escape, is_escaped, unescape};
 pub use fit::{RowFault, fits, row_size};
 pub use laws::{escape_laws, fit_laws, row_laws};
 pub use number::{parse_signed, parse_unsigned};

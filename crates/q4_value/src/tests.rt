@@ -311,6 +311,7 @@ fn escaped_texts(rt: HostRuntime) {
         assert_eq!(rt; out.as_slice(), wanted.as_slice(), "of {spelled}");
         let words = unescape(rt.alloc(), spelled).expect(&rt, "a text");
         assert_eq!(rt; words.as_str(), text);
+        assert!(rt; is_escaped(spelled), "of {spelled}");
     }
 }
 
@@ -335,6 +336,7 @@ fn bad_escapes(rt: HostRuntime) {
     for (text, place) in cases {
         let fault = unescape(rt.alloc(), text).err();
         assert_eq!(rt; fault, Some(EscapeFault::BadEscape(place)), "of {text}");
+        assert!(rt; !is_escaped(text), "of {text}");
     }
 }
 
