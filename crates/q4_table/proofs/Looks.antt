@@ -47,7 +47,7 @@ first_cases p low next x rows r rise true test is later =
       there = ap (λ (b : Bool). cond b (Some x) (row_in rows x.number)) (eq-eqb x.number x.number refl);
       passes = test;
       first = All-cons (λ (y : StoredRow). p y ≡ true → x.number ≤ y.number) x rows (λ _. omega arith)
-        (All-weaker (λ (y : StoredRow). x.number < y.number) (λ (y : StoredRow). p y ≡ true → x.number ≤ y.number) (λ y above _. let h : x.number < y.number = above in omega (arith, h)) rows (all_above x.number next rows rise.2));
+          (All-weaker (λ (y : StoredRow). x.number < y.number) (λ (y : StoredRow). p y ≡ true → x.number ≤ y.number) (λ y above _. let h : x.number < y.number = above in omega (arith, h)) rows (all_above x.number next rows rise.2));
     })
 first_cases p low next x rows r rise false test is later =
     let rest = later is in

@@ -44,7 +44,7 @@ valid-owned table k owner valid = record {
   limit = valid.limit;
   numbers = rise-owned 0 table.next k owner table.rows valid.numbers;
   fit = All-map (λ (r : StoredRow). Fits table.columns r.row) (owned_by k owner) table.rows
-    (All-weaker (λ (r : StoredRow). Fits table.columns r.row) (λ (r : StoredRow). Fits table.columns (owned_by k owner r).row) (λ r fits. rw (keeps_row k owner r) fits) table.rows valid.fit);
+      (All-weaker (λ (r : StoredRow). Fits table.columns r.row) (λ (r : StoredRow). Fits table.columns (owned_by k owner r).row) (λ r fits. rw (keeps_row k owner r) fits) table.rows valid.fit);
   marks = valid.marks;
   count = omega (arith, length-map table.rows (owned_by k owner), valid.count);
   bytes = omega (arith, bytes-owned k owner table.rows, valid.bytes);

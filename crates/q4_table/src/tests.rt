@@ -111,6 +111,16 @@ fn end(rt: &impl Abort, table: &mut Table, number: u64) {
     table.end(number);
 }
 
+fn mark(rt: &impl Abort, table: &Table, source: u8) -> u64 {
+    assert!(rt; source < 64);
+    table.mark(source)
+}
+
+fn set_next(rt: &impl Abort, table: &mut Table, number: u64) {
+    assert!(rt; table.next() <= number && number <= 1 << 62);
+    table.set_next(number);
+}
+
 #[test]
 fn looks_take_the_oldest_row_that_meets_the_condition(rt: HostRuntime) -> Result<(), Fail> {
     let alloc = rt.alloc();
@@ -131,7 +141,10 @@ fn looks_take_the_oldest_row_that_meets_the_condition(rt: HostRuntime) -> Result
         assert_eq!(rt; oldest(&rt, alloc, &table, text), wanted, "{text}");
     }
     own(&rt, &mut table, 2, 7);
-    assert_eq!(rt; (table.owner(1), table.owner(2), table.owner(4)), (None, Some(7), None));
+    assert_eq!(rt;
+        (table.owner(1), table.owner(2), table.owner(4)),
+        (None, Some(7), None)
+    );
     assert_eq!(rt; oldest(&rt, alloc, &table, "prio>=5"), Some(3));
     own(&rt, &mut table, 3, 8);
     assert_eq!(rt; oldest(&rt, alloc, &table, "prio>=5"), None);
@@ -156,7 +169,13 @@ fn rows_are_found_by_their_numbers(rt: HostRuntime) -> Result<(), Fail> {
     end(&rt, &mut table, 2);
     end(&rt, &mut table, 4);
     assert_eq!(rt; (table.next(), table.count(), table.bytes()), (5, 2, 26));
-    let live = [(0, Some(1)), (1, Some(1)), (2, Some(3)), (3, Some(3)), (4, None)];
+    let live = [
+        (0, Some(1)),
+        (1, Some(1)),
+        (2, Some(3)),
+        (3, Some(3)),
+        (4, None),
+    ];
     for (number, wanted) in live {
         assert_eq!(rt; table.live_from(number), wanted, "{number}");
     }
@@ -197,16 +216,32 @@ fn marks_tell_what_was_seen(rt: HostRuntime) -> Result<(), Fail> {
         (0, Mode::A, 1, Check::Seen(1), 1),
         (63, Mode::A, (1 << 62) - 1, Check::New, (1 << 62) - 1),
     ];
-    for (source, mode, number, wanted, mark) in inserts {
+    for (source, mode, number, wanted, wanted_mark) in inserts {
         let row = job(&rt, alloc, &table, 1, "");
-        add(&rt, &mut table, row, origin(&rt, source, mode, number), wanted);
-        assert_eq!(rt; table.mark(source), mark, "{source} {number}");
+        add(
+            &rt,
+            &mut table,
+            row,
+            origin(&rt, source, mode, number),
+            wanted,
+        );
+        assert_eq!(rt; mark(&rt, &table, source), wanted_mark, "{source} {number}");
     }
-    assert_eq!(rt; (table.next(), table.count(), table.mark(5)), (9, 8, 0));
+    assert_eq!(rt;
+        (table.next(), table.count(), mark(&rt, &table, 5)),
+        (9, 8, 0)
+    );
     // What a file says of a table.
     assert!(rt; table.set_mark(5, 6).is_ok() && table.set_mark(4, 1).is_ok());
-    assert_eq!(rt; (table.mark(4), table.mark(5), table.mark(63)), (1, 6, (1 << 62) - 1));
-    table.set_next(100);
+    assert_eq!(rt;
+        (
+            mark(&rt, &table, 4),
+            mark(&rt, &table, 5),
+            mark(&rt, &table, 63)
+        ),
+        (1, 6, (1 << 62) - 1)
+    );
+    set_next(&rt, &mut table, 100);
     add_job(&rt, alloc, &mut table, 1, "");
     assert_eq!(rt; (table.live_from(9), table.next()), (Some(100), 101));
     Ok(())
@@ -225,12 +260,24 @@ fn full_tables_refuse_rows(rt: HostRuntime) -> Result<(), Fail> {
     let row = job(&rt, alloc, &table, 1, "");
     add(&rt, &mut table, row, None, Check::Rows);
     let row = job(&rt, alloc, &table, 1, "");
-    add(&rt, &mut table, row, origin(&rt, 1, Mode::A, 7), Check::Seen(7));
-    table.set_next(1 << 62);
+    add(
+        &rt,
+        &mut table,
+        row,
+        origin(&rt, 1, Mode::A, 7),
+        Check::Seen(7),
+    );
+    set_next(&rt, &mut table, 1 << 62);
     let row = job(&rt, alloc, &table, 1, "");
     add(&rt, &mut table, row, None, Check::Spent);
     let row = job(&rt, alloc, &table, 1, "");
-    add(&rt, &mut table, row, origin(&rt, 1, Mode::A, 7), Check::Seen(7));
+    add(
+        &rt,
+        &mut table,
+        row,
+        origin(&rt, 1, Mode::A, 7),
+        Check::Seen(7),
+    );
     end(&rt, &mut table, 125_000);
     let row = job(&rt, alloc, &table, 1, "");
     add(&rt, &mut table, row, None, Check::Spent);
@@ -279,6 +326,9 @@ fn bytes_of_rows_are_limited(rt: HostRuntime) -> Result<(), Fail> {
     end(&rt, &mut table, 2);
     let row = fitting(&rt, &table, longest);
     add(&rt, &mut table, row, None, Check::New);
-    assert_eq!(rt; (table.bytes(), table.count(), table.next()), (33_554_432, 32, 34));
+    assert_eq!(rt;
+        (table.bytes(), table.count(), table.next()),
+        (33_554_432, 32, 34)
+    );
     Ok(())
 }
