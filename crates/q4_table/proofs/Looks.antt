@@ -1,13 +1,12 @@
 -- The least number is that of the oldest free row.
-use Rattle.std.proofs.Common.{◌≡◌, ◌==◌, ◌<◌, ◌≤◌, ◌∷◌, ◌∙◌, [], List, ℕ, Bool, true, false, cond, ◌&&◌, Option, Some, None, IsTrue, IsSomeAnd, All, find, is_none, refl, sym, ap, subst, arith}
+use Rattle.std.proofs.Common.{◌≡◌, ◌==◌, ◌<◌, ◌≤◌, ◌∷◌, ◌∙◌, [], List, ℕ, Bool, true, false, cond, ◌&&◌, Option, Some, None, IsTrue, All, find, is_none, refl, sym, ap, subst, arith}
 use Rattle.std.specs.Option.{option_map}
 use Rattle.std.proofs.lemmas.Bool.{ne_eqb, eq-eqb}
 use Rattle.std.proofs.lemmas.List.Elements.{All-nil, All-cons, All-weaker}
-use Rattle.q4_value.specs.declared.row.Value.{Value}
 use Rattle.q4_cond.specs.Tree.{Tree}
 use Rattle.q4_cond.specs.Values.{meets}
 use Rattle.q4_table.specs.declared.rows.StoredRow.{StoredRow}
-use Rattle.q4_table.specs.Oldest.{is_free, oldest_meeting, IsFree, IsOldest, TakesOldest}
+use Rattle.q4_table.specs.Oldest.{is_free, oldest_meeting, IsFree, TakesOldest}
 use Rattle.q4_table.specs.Rows.{row_in, numbers_of}
 use Rattle.q4_table.specs.Valid.{RiseBelow}
 use Rattle.q4_table.proofs.Changes.{number}
