@@ -63,8 +63,8 @@ impl Bytes {
         }
     }
 
-    // Keeps so many bytes, and their room.
-    pub(crate) fn cut(&mut self, len: usize)
+    /// Keeps the first bytes, at most so many, and their room.
+    pub fn cut(&mut self, len: usize)
         ensures { self.new ≡ take len self.old }
     {
         self.bytes.truncate(len);
