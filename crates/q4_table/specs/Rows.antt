@@ -1,5 +1,5 @@
 -- The rows of a table: how one is found, owned, given back and removed, and the sum of their sizes.
-use Rattle.std.specs.Prelude.{◌≡◌, ◌==◌, ◌≤◌, ℕ, List, [], ◌∷◌, Option, None, Some, IsSome, IsSomeAnd, map, filter, find, min, not, nat_le, sum_by, option_and_then, if◌then◌else◌}
+use Rattle.std.specs.Prelude.{◌≡◌, ◌==◌, ℕ, List, [], ◌∷◌, Option, None, Some, IsSome, IsSomeAnd, map, filter, find, min, not, nat_le, sum_by, option_and_then, if◌then◌else◌}
 use Rattle.std.specs.Option.{option_map, option_map_or}
 use Rattle.q4_value.specs.declared.row.Value.{Value}
 use Rattle.q4_value.specs.Row.{row_size}
@@ -49,7 +49,7 @@ numbers_of rows = map (λ r. r.number) rows
 
 -- the least row number that is at least this one
 abbrev pub least_from : List StoredRow → ℕ → Option ℕ
-least_from rows number = least (filter (λ n. nat_le number n) (numbers_of rows))
+least_from rows number = least (numbers_of (filter (λ r. nat_le number r.number) rows))
 
 -- the sum of the rows' sizes
 abbrev pub bytes_of : List StoredRow → ℕ

@@ -1,8 +1,11 @@
-ghost use Rattle.std.specs.Prelude.{◌≡◌, [], IfOk, OnOk, OnErr};
+ghost use Rattle.std.specs.Prelude.{◌≡◌, ◌==◌, [], find, IfOk, OnOk, OnErr};
+ghost use Rattle.std.specs.Option.{ForSome, option_map};
+ghost use Rattle.q4_table.specs.Adding.{IsOrigin, with_origin};
 ghost use Rattle.q4_table.specs.Marks.{mark_of, with_mark};
 ghost use Rattle.q4_table.specs.Valid.{IsMark};
 ghost use Rattle.q4_table.specs.Place.{IsPlace};
 
+use crate::Origin;
 use q4_value::NoMemory;
 use std::alloc::Global;
 use std::marker::Model;
@@ -53,10 +56,7 @@ impl Marks {
     pub fn of(&self, source: u8) -> u64
         ensures { result ≡ mark_of self.now source }
     {
-        match self.marks.iter().find(|mark| mark.source == source) {
-            Some(mark) => mark.number,
-            None => 0,
-        }
+        number_of(&self.marks, source).unwrap_or(0)
     }
 
     /// Sets the mark of a source. A refusal leaves the marks.
@@ -76,6 +76,21 @@ impl Marks {
         }
     }
 
+    /// Notes the origin of a row, whose number becomes the mark of its source. A refusal leaves the marks.
+    pub fn note(&mut self, origin: Option<Origin>) -> Result<(), NoMemory>
+        requires { ForSome origin IsOrigin }
+        ensures noted { OnOk result (self.new ≡ with_origin origin self.old) }
+        ensures kept { OnErr result (self.new ≡ self.old) }
+    {
+        match origin {
+            Some(origin) => self.set(Mark {
+                source: origin.source,
+                number: origin.number,
+            }),
+            None => Ok(()),
+        }
+    }
+
     /// The same marks, in memory of their own.
     pub fn copy(&self, alloc: Global) -> Result<Marks, NoMemory>
         ensures { IfOk result (λ marks. marks ≡ self.now) }
@@ -86,4 +101,12 @@ impl Marks {
             Err(_) => Err(NoMemory),
         }
     }
+}
+
+// The number of the first mark of the source, if there is one.
+fn number_of(marks: &[Mark], source: u8) -> Option<u64>
+    ensures { result ≡ option_map (λ m. m.number) (find (λ m. m.source == source) marks.now) }
+{
+    let mark = marks.iter().find(|mark| mark.source == source)?;
+    Some(mark.number)
 }

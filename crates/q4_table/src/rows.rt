@@ -1,8 +1,8 @@
-ghost use Rattle.std.specs.Prelude.{◌≡◌, ◌<◌, ◌≤◌, [], ◌∷◌, ◌++◌, Some, length, IfOk, IfErr, OnOk, OnErr};
-ghost use Rattle.std.specs.Option.{option_copied};
+ghost use Rattle.std.specs.Prelude.{◌≡◌, ◌<◌, ◌≤◌, [], ◌∷◌, ◌++◌, Some, length, find, IfOk, IfErr, OnOk, OnErr};
+ghost use Rattle.std.specs.Option.{option_copied, option_map};
 ghost use Rattle.q4_table.specs.Adding.{number_limit};
 ghost use Rattle.q4_table.specs.Rows.{row_in, IsThere, with_owner, without_row, numbers_of, least_from as least_of};
-ghost use Rattle.q4_table.specs.Oldest.{oldest_meeting};
+ghost use Rattle.q4_table.specs.Oldest.{is_free, oldest_meeting};
 ghost use Rattle.q4_table.specs.Valid.{RiseBelow};
 ghost use Rattle.q4_table.specs.Place.{IsPlace};
 
@@ -99,11 +99,7 @@ impl Rows {
     pub fn oldest(&self, cond: &Cond) -> Option<u64>
         ensures { result ≡ oldest_meeting self.now cond.now.tree }
     {
-        let stored = self
-            .rows
-            .iter()
-            .find(|stored| stored.owner.is_none() && met(cond, &stored.row))?;
-        Some(stored.number)
+        first_free(&self.rows, cond)
     }
 
     /// Puts a row behind the others, whose numbers are lesser. A refusal gives it back.
@@ -153,4 +149,14 @@ impl Rows {
         }
         Ok(Rows { rows })
     }
+}
+
+// The number of the first row that nobody owns and that meets the condition.
+fn first_free(rows: &[StoredRow], cond: &Cond) -> Option<u64>
+    ensures { result ≡ option_map (λ r. r.number) (find (is_free cond.now.tree) rows.now) }
+{
+    let stored = rows
+        .iter()
+        .find(|stored| stored.owner.is_none() && met(cond, &stored.row))?;
+    Some(stored.number)
 }

@@ -160,14 +160,8 @@ impl Table {
         if let Err((stored, NoMemory)) = self.rows.push(stored) {
             return Err((AddFault::Memory, stored.row));
         }
-        if let Some(origin) = origin {
-            let mark = Mark {
-                source: origin.source,
-                number: origin.number,
-            };
-            if self.marks.set(mark).is_err() {
-                return Err((AddFault::Memory, self.rows.remove(number).row));
-            }
+        if self.marks.note(origin).is_err() {
+            return Err((AddFault::Memory, self.rows.remove(number).row));
         }
         self.next += 1;
         self.bytes += size;
