@@ -13,3 +13,9 @@ pub returns-clause-side : goal.returns-clause-side
 returns-clause-side c =
     let h = c.in_ok-header.ensures in
     side_read c.args.columns c.args.bytes.now c.in_ok-header.header.base.now c.in_ok-header.header.behind.now c.in_ok-table.table c.in_ok-table-2.table _ c.in_ok-header.header.generation c.in_ok-table-2.len h.begins h.parts.1 h.parts.2 h.parts.0 c.in_ok-table.ensures.base refl c.in_ok-table-2.ensures.read (omega (arith, c.count.ensures, c.from.ensures))
+
+pub returns-then-len-from-clause-fault : goal.returns-then-len-from-clause-fault
+returns-then-len-from-clause-fault c =
+    let h = c.in_ok-header.ensures in
+    lacks_room c.args.columns c.args.bytes.now c.in_ok-header.header.base.now c.in_ok-header.header.behind.now c.in_ok-table.table c.in_ok-table-2.table _ c.in_ok-header.header.generation c.in_ok-table-2.len h.begins h.parts.1 h.parts.2 h.parts.0 c.in_ok-table.ensures.base refl c.in_ok-table-2.ensures.read
+    (λ room. omega (arith, room, c.count.ensures, c.from.ensures, c.if-len-from.true))
