@@ -1,0 +1,214 @@
+ghost use Rattle.q4_proto.specs.declared.reply.Outcome.TheVariants as outcome;
+ghost use Rattle.q4_proto.specs.Text.{IsCode, IsOutcome};
+
+use super::*;
+use q4_cond::CondFault;
+use q4_def::{Defs, read_defs};
+use q4_flow::{MemorySink, WriteFailed};
+use q4_machine::Looks;
+use q4_value::{Row, Value};
+use std::alloc::Global;
+use std::process::Abort;
+use std::test::*;
+
+// A reply is one write: the second write of the sink fails, and nothing of it is there.
+fn check_reply(rt: &impl Abort, alloc: Global, outcome: &Outcome, wanted: &[u8])
+    requires { IsOutcome outcome.now }
+{
+    let mut sink = MemorySink::new(alloc, &[2]).expect(rt, "memory");
+    assert_eq!(rt; put_reply(outcome, &mut sink), Ok(()));
+    assert_eq!(rt; put_reply(outcome, &mut sink), Err(WriteFailed));
+    assert_eq!(rt; sink.bytes(), wanted);
+}
+
+#[test]
+fn replies(rt: HostRuntime) {
+    check_reply(&rt, rt.alloc(), &Outcome::Ok, b"ok\n");
+    check_reply(&rt, rt.alloc(), &Outcome::Bye, b"bye\n");
+    check_reply(&rt, rt.alloc(), &Outcome::Number(0), b"ok\t0\n");
+    check_reply(&rt, rt.alloc(), &Outcome::Seen(10), b"seen\t10\n");
+    check_reply(
+        &rt,
+        rt.alloc(),
+        &Outcome::Number(u64::MAX),
+        b"ok\t18446744073709551615\n",
+    );
+}
+
+// The definitions that the lines are read for.
+fn two_tables(rt: &impl Abort, alloc: Global) -> Defs {
+    let text = b"[[table]]
+name = \"jobs\"
+columns = [\"prio int\", \"body text\"]
+
+[[table]]
+name = \"hot\"
+columns = [\"prio int\"]
+";
+    match read_defs(alloc, text) {
+        Ok(defs) => defs,
+        Err(_) => panic!(rt; "no definitions"),
+    }
+}
+
+const REFUSED: [(&[u8], CommandFault, &[u8]); 36] = [
+    (b"end\xff", CommandFault::NotText, b"err\t10\tnot UTF-8\n"),
+    (b"\xc3", CommandFault::NotText, b"err\t10\tnot UTF-8\n"),
+    (b"", CommandFault::Unknown, b"err\t11\tunknown command\n"),
+    (b"\tend", CommandFault::Unknown, b"err\t11\tunknown command\n"),
+    (b"End", CommandFault::Unknown, b"err\t11\tunknown command\n"),
+    (b"quit ", CommandFault::Unknown, b"err\t11\tunknown command\n"),
+    (b"waits\tjobs", CommandFault::Unknown, b"err\t11\tunknown command\n"),
+    (b"rowid", CommandFault::NotBuilt, b"err\t19\tnot built\n"),
+    (b"abort\tx\\q", CommandFault::NotBuilt, b"err\t19\tnot built\n"),
+    (b"select\tjobs\t1", CommandFault::NotBuilt, b"err\t19\tnot built\n"),
+    (b"srcid\t1\ta\t1", CommandFault::NotBuilt, b"err\t19\tnot built\n"),
+    (b"compact\tjobs", CommandFault::NotBuilt, b"err\t19\tnot built\n"),
+    (b"wait", CommandFault::NotBuilt, b"err\t19\tnot built\n"),
+    (b"wait\tjobs\tjobs", CommandFault::NotBuilt, b"err\t19\tnot built\n"),
+    (b"wait\t=0", CommandFault::NotBuilt, b"err\t19\tnot built\n"),
+    (b"insert", CommandFault::Fields, b"err\t12\twrong number of fields\n"),
+    (b"end\t", CommandFault::Fields, b"err\t12\twrong number of fields\n"),
+    (b"quit\tx\\q", CommandFault::Fields, b"err\t12\twrong number of fields\n"),
+    (b"insert\tjobs\t1\ta\\q", CommandFault::Escape(3), b"err\t14\tbad escape\t3\n"),
+    (b"insert\tj\\obs\t\\q", CommandFault::Escape(1), b"err\t14\tbad escape\t1\n"),
+    (b"insert\tmail\t\\q\t\\q", CommandFault::Escape(2), b"err\t14\tbad escape\t2\n"),
+    (b"wait\tjobs:body='\r'", CommandFault::Escape(1), b"err\t14\tbad escape\t1\n"),
+    (b"insert\tmail\t1", CommandFault::NoTable(1), b"err\t21\tno table\t1\n"),
+    (b"insert\t", CommandFault::NoTable(1), b"err\t21\tno table\t1\n"),
+    (b"wait\tjob:prio<", CommandFault::NoTable(1), b"err\t21\tno table\t1\n"),
+    (
+        b"wait\tjobs:prio<2<3",
+        CommandFault::Cond(1, CondFault::At(6)),
+        b"err\t24\tbad condition\t1\t6\n",
+    ),
+    (
+        b"wait\tjobs:size>1",
+        CommandFault::Cond(1, CondFault::NoColumn(0)),
+        b"err\t28\tno column\t1\t0\n",
+    ),
+    (
+        b"wait\tjobs:prio=body",
+        CommandFault::Cond(1, CondFault::Kinds(5)),
+        b"err\t29\twrong kinds\t1\t5\n",
+    ),
+    (
+        b"wait\thot:body='x'",
+        CommandFault::Cond(1, CondFault::NoColumn(0)),
+        b"err\t28\tno column\t1\t0\n",
+    ),
+    (
+        b"wait\tjobs:((((((((((((((((((((((((((((((((1",
+        CommandFault::Cond(1, CondFault::At(33)),
+        b"err\t24\tbad condition\t1\t33\n",
+    ),
+    (
+        b"wait\tjobs:(((((((((((((((((((((((((((((((((1",
+        CommandFault::Cond(1, CondFault::Deep(32)),
+        b"err\t27\tcondition too deep\t1\t32\n",
+    ),
+    (b"insert\tjobs\t1", CommandFault::Count(2), b"err\t20\twrong number of values\t2\n"),
+    (b"insert\thot\tx\ty", CommandFault::Count(1), b"err\t20\twrong number of values\t1\n"),
+    (b"insert\tjobs", CommandFault::Count(2), b"err\t20\twrong number of values\t2\n"),
+    (b"insert\tjobs\t07\ta", CommandFault::Value(1), b"err\t22\tbad value\t1\n"),
+    (b"insert\thot\t1\\t", CommandFault::Value(1), b"err\t22\tbad value\t1\n"),
+];
+
+fn check_refusal(rt: &impl Abort, alloc: Global, code: Code, wanted: &[u8])
+    requires { IsCode code }
+{
+    check_reply(rt, alloc, &Outcome::Refused(code), wanted);
+}
+
+#[test]
+fn refused_lines(rt: HostRuntime) {
+    let defs = two_tables(&rt, rt.alloc());
+    for (line, wanted, reply) in &REFUSED {
+        assert!(rt; line.len() < 100);
+        match read_command(rt.alloc(), line, &defs) {
+            Ok(_) => panic!(rt; "taken"),
+            Err(fault) => {
+                assert_eq!(rt; fault, *wanted);
+                check_refusal(&rt, rt.alloc(), refusal_of(fault), reply);
+            }
+        }
+    }
+}
+
+// What an accepted line is read as.
+#[derive(Clone, Copy, Debug, PartialEq, Eq)]
+enum Read {
+    Job(i64, &'static str),
+    Hot(i64),
+    Wait(u32),
+    End,
+    Quit,
+}
+
+fn is_job(row: &Row, priority: i64, body: &str) -> bool {
+    match (row.at(0), row.at(1)) {
+        (Some(Value::Int(first)), Some(Value::Word(second))) => {
+            row.len() == 2 && *first == priority && second.as_str() == body
+        }
+        _ => false,
+    }
+}
+
+fn is_hot(row: &Row, priority: i64) -> bool {
+    match row.at(0) {
+        Some(Value::Int(first)) => row.len() == 1 && *first == priority,
+        _ => false,
+    }
+}
+
+fn is_wait(list: &Looks, table: u32) -> bool {
+    match list.as_slice() {
+        [listed] => listed.table == table,
+        _ => false,
+    }
+}
+
+fn is_read_as(command: &Command, wanted: Read) -> bool {
+    match (command, wanted) {
+        (Command::Insert(0, row), Read::Job(priority, body)) => is_job(row, priority, body),
+        (Command::Insert(1, row), Read::Hot(priority)) => is_hot(row, priority),
+        (Command::Wait(list), Read::Wait(table)) => is_wait(list, table),
+        (Command::End, Read::End) => true,
+        (Command::Quit, Read::Quit) => true,
+        _ => false,
+    }
+}
+
+const TAKEN: [(&[u8], Read); 13] = [
+    (b"insert\tjobs\t7\ta", Read::Job(7, "a")),
+    (b"insert\tjobs\t0\t", Read::Job(0, "")),
+    (
+        b"insert\tjobs\t-9223372036854775808\tx y",
+        Read::Job(i64::MIN, "x y"),
+    ),
+    (
+        b"insert\tjobs\t9223372036854775807\t\xc3\xa9",
+        Read::Job(i64::MAX, "\u{e9}"),
+    ),
+    (b"insert\tjobs\t1\t\\t\\n\\r\\\\", Read::Job(1, "\t\n\r\\")),
+    (b"insert\thot\t-1", Read::Hot(-1)),
+    (b"wait\tjobs", Read::Wait(0)),
+    (b"wait\thot", Read::Wait(1)),
+    (b"wait\thot:", Read::Wait(1)),
+    (b"wait\tjobs:body='a:b' or prio>=5", Read::Wait(0)),
+    (b"wait\tjobs:body='\\t'", Read::Wait(0)),
+    (b"end", Read::End),
+    (b"quit", Read::Quit),
+];
+
+#[test]
+fn taken_lines(rt: HostRuntime) {
+    let defs = two_tables(&rt, rt.alloc());
+    for (place, (line, wanted)) in TAKEN.iter().enumerate() {
+        assert!(rt; line.len() < 100);
+        match read_command(rt.alloc(), line, &defs) {
+            Ok(command) => assert!(rt; is_read_as(&command, *wanted), "line {place}"),
+            Err(_) => panic!(rt; "line {place} is refused"),
+        }
+    }
+}
