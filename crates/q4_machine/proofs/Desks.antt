@@ -307,7 +307,6 @@ pub wait_replied : (place : Option ℕ) → Replied (look_reply place) ≡ wait_
 wait_replied (Some place) = refl
 wait_replied None = refl
 
-
 -- ## Opening and closing
 
 pub opened_desk : (h : List Entry) (r1 r2 : Recorded) (s : ℕ) → r1.seen ≡ h → HasRoom r1 2 → r2 ≡ pushed r1 s Open (reply.Session s) → ((place : ℕ) → IsSettled h place) → SyncsAreOwed h → IsSound r2.seen → IsOpenFor r2.seen 0 s

@@ -27,9 +27,9 @@ pub all_take : (tables : List Opening) (list : List Listed) → AreValidTables t
 all_take tables list valid listed =
     All-weaker (IsListed (definitions tables)) (Takes tables)
     (λ l is.
-      let table = table_at tables l.table in
-      let valid_one : IsValidTable table = All-get_or IsValidOpening tables l.table no_table (listed_inside tables l is) valid in
-      takes_oldest l.cond.tree table.next table.rows valid_one.numbers) list listed
+    let table = table_at tables l.table in
+    let valid_one : IsValidTable table = All-get_or IsValidOpening tables l.table no_table (listed_inside tables l is) valid in
+    takes_oldest l.cond.tree table.next table.rows valid_one.numbers) list listed
 
 -- What was picked: its entry in the list, the entries before it without a free row, and its number.
 pub record PickedAt (tables : List Opening) (place : ℕ) (list : List Listed) (p : Picked) : Type 0 where

@@ -33,7 +33,6 @@ pub struct Looks {
 impl Model for Looks {
     ghost use Rattle.std.specs.Prelude.{◌<◌, List, vec_len};
     ghost use Rattle.q4_machine.specs.declared.looks.Listed.{Listed as Element};
-
     ghost use Rattle.q4_machine.specs.contracts.looks.Listed as listed;
     ghost use Rattle.std.specs.Coded.{coded_list};
 

@@ -73,6 +73,7 @@ impl Machine {
     /// Opens a session in non-owner mode. It also wants memory where the numbers are used up.
     pub fn open(&mut self) -> Result<u64, NoMemory>
         ensures opened { IfOk result (λ session. step self.old session call.Open ≡ (self.new, reply.Session session)) }
+        ensures mode { IfOk result (λ session. mode_of self.new session ≡ Some SessionMode.NonOwner) }
         ensures kept { OnErr result (self.new ≡ self.old) }
     {
         if self.next_session >= SESSION_LIMIT {
@@ -111,12 +112,7 @@ impl Machine {
     }
 
     /// Adds a row to the table at this place. A refusal gives the row back; only want of memory is no step.
-    pub fn insert(
-        &mut self,
-        session: u64,
-        table: u32,
-        row: Row,
-    ) -> Result<Added, (AddFault, Row)>
+    pub fn insert(&mut self, session: u64, table: u32, row: Row) -> Result<Added, (AddFault, Row)>
         requires is_open { IsSessionOpen self.old session }
         requires row { IsRowFor (definitions self.old.tables) table row }
         ensures step { ForSome (insert_reply result) (λ reply. step self.old session (call.Insert table row) ≡ (self.new, reply)) }

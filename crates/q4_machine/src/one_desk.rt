@@ -22,7 +22,6 @@ pub struct OneDesk {
 
 impl Model for OneDesk {
     ghost use Rattle.q4_machine.specs.Recorded.{DeskState};
-
     ghost use Rattle.q4_machine.specs.contracts.entry.Entry as entry;
     ghost use Rattle.std.specs.Coded.{codes};
 

@@ -31,7 +31,6 @@ pub struct RecordedMachine {
 impl Model for RecordedMachine {
     ghost use Rattle.std.specs.Prelude.{vec_capacity};
     ghost use Rattle.q4_machine.specs.Recorded.{Recorded};
-
     ghost use Rattle.q4_machine.specs.contracts.entry.Entry as entry;
     ghost use Rattle.std.specs.Coded.{codes};
 

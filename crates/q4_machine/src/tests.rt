@@ -1,9 +1,8 @@
-ghost use Rattle.std.specs.Prelude.{◌≡◌, ◌<◌, ◌≤◌, [], None, All, length, IsSome};
-ghost use Rattle.q4_def.specs.Tables.{AreDefs};
+ghost use Rattle.std.specs.Prelude.{◌≡◌, ◌<◌, ◌≤◌, [], Some, None, All, length, IsSome};
 ghost use Rattle.q4_table.specs.Valid.{IsValidTable};
 ghost use Rattle.q4_machine.specs.Definitions.{columns_at, definitions, IsRowFor, IsListed};
-ghost use Rattle.q4_machine.specs.History.{definitions_of};
-ghost use Rattle.q4_machine.specs.Machine.{IsSessionOpen};
+ghost use Rattle.q4_machine.specs.History.{definitions_of, IsOpenFor};
+ghost use Rattle.q4_machine.specs.Machine.{mode_of};
 
 use crate::recorded::RecordedMachine;
 use crate::*;
@@ -16,9 +15,11 @@ use std::process::Abort;
 use std::test::*;
 
 // The columns of the two tables have the same names, in another order.
-const TWO_TABLES: &[u8] = b"[[table]]\nname = \"jobs\"\ncolumns = [\"prio int\", \"body text\"]\n\n[[table]]\nname = \"hot\"\ncolumns = [\"body text\", \"prio int\"]\n";
+const TWO_TABLES: &[u8] =
+    b"[[table]]\nname = \"jobs\"\ncolumns = [\"prio int\", \"body text\"]\n\n[[table]]\nname = \"hot\"\ncolumns = [\"body text\", \"prio int\"]\n";
 
-const SIXTEEN_TEXTS: &[u8] = b"[[table]]\nname = \"texts\"\ncolumns = [\"a text\", \"b text\", \"c text\", \"d text\", \"e text\", \"f text\", \"g text\", \"h text\", \"i text\", \"j text\", \"k text\", \"l text\", \"m text\", \"n text\", \"o text\", \"p text\"]\n";
+const SIXTEEN_TEXTS: &[u8] =
+    b"[[table]]\nname = \"texts\"\ncolumns = [\"a text\", \"b text\", \"c text\", \"d text\", \"e text\", \"f text\", \"g text\", \"h text\", \"i text\", \"j text\", \"k text\", \"l text\", \"m text\", \"n text\", \"o text\", \"p text\"]\n";
 
 fn defs_of(rt: &impl Abort, alloc: Global, text: &[u8]) -> Defs {
     read_defs(alloc, text).expect(rt, "definitions")
@@ -41,6 +42,7 @@ enum Cell {
     Number(i64),
     Text(&'static str),
 }
+
 use Cell::{Number, Text};
 
 fn row_of(rt: &impl Abort, alloc: Global, cells: &[Cell]) -> Row {
@@ -95,6 +97,7 @@ enum Ask {
     Wait(&'static [(u32, &'static str)]),
     End,
 }
+
 use Ask::{End, Insert, Wait};
 
 fn insert<K: Desk>(rt: &impl Abort, desk: &mut K, place: u32, row: Row) -> Reply
@@ -262,7 +265,10 @@ const WAITS: [(Ask, Reply); 16] = [
     (Wait(&[(0, "prio>=5")]), Reply::Found(1)),
     // Row 1 of `hot`, though the row of `jobs` is older.
     (Wait(&[(1, ""), (0, "")]), Reply::Found(1)),
-    (Wait(&[(1, ""), (0, "prio>=5"), (0, "body='a'")]), Reply::Found(3)),
+    (
+        Wait(&[(1, ""), (0, "prio>=5"), (0, "body='a'")]),
+        Reply::Found(3),
+    ),
     (Insert(0, &[Number(7), Text("d")]), Reply::Added(4)),
     (Wait(&[(0, "prio<7"), (1, "")]), Reply::Nothing),
     (Wait(&[(0, "prio<7"), (0, "prio<8")]), Reply::Found(2)),
@@ -315,13 +321,22 @@ fn fill<K: Desk>(rt: &impl Abort, alloc: Global, desk: &mut K)
 {
     assert!(rt; desk.open().is_ok());
     for number in 1..33 {
-        assert_eq!(rt; insert(rt, desk, 0, longest_row(rt, alloc)), Reply::Added(number));
+        assert_eq!(rt;
+            insert(rt, desk, 0, longest_row(rt, alloc)),
+            Reply::Added(number)
+        );
     }
     let refused = Reply::Refused(Refusal::Bytes(33_554_432));
-    assert_eq!(rt; insert(rt, desk, 0, row_of(rt, alloc, &[Text(""); 16])), refused);
+    assert_eq!(rt;
+        insert(rt, desk, 0, row_of(rt, alloc, &[Text(""); 16])),
+        refused
+    );
     assert_eq!(rt; wait(rt, alloc, desk, &[(0, "")]), Reply::Found(1));
     assert_eq!(rt; end(rt, desk), Reply::Done);
-    assert_eq!(rt; insert(rt, desk, 0, longest_row(rt, alloc)), Reply::Added(33));
+    assert_eq!(rt;
+        insert(rt, desk, 0, longest_row(rt, alloc)),
+        Reply::Added(33)
+    );
     desk.close();
 }
 
@@ -347,13 +362,14 @@ fn a_full_table_refuses(rt: HostRuntime) {
     }
 }
 
-// The table of this definition without a row, whose next row gets this number.
-fn opening(rt: &impl Abort, alloc: Global, defs: &Defs, place: u32, next: u64) -> Opening
+// The built-in table without a row. Its next row gets this number.
+fn opening(rt: &impl Abort, alloc: Global, next: u64) -> Opening
     ensures valid { IsValidTable result.table }
     ensures empty { result.table.rows ≡ [] }
 {
     assert!(rt; next >= 1 && next <= 1 << 62);
-    let Some(def) = defs.table(place) else {
+    let defs = defs_of(rt, alloc, b"");
+    let Some(def) = defs.table(0) else {
         panic!(rt; "no such table");
     };
     let def = def.copy(alloc).expect(rt, "memory");
@@ -366,11 +382,12 @@ fn opening(rt: &impl Abort, alloc: Global, defs: &Defs, place: u32, next: u64) -
     }
 }
 
-// A machine of two tables. The second has no number left for a row.
-fn half_spent(rt: &impl Abort, alloc: Global, defs: &Defs) -> Machine {
+// A machine of that table alone.
+fn numbered_from(rt: &impl Abort, alloc: Global, next: u64) -> Machine
+    ensures { length result.tables ≡ 1 }
+{
     let mut tables = Tables::new(alloc);
-    assert!(rt; tables.push(opening(rt, alloc, defs, 0, 1)).is_ok());
-    assert!(rt; tables.push(opening(rt, alloc, defs, 1, 1 << 62)).is_ok());
+    assert!(rt; tables.push(opening(rt, alloc, next)).is_ok());
     match Machine::new(alloc, tables) {
         Ok(machine) => machine,
         Err(_) => panic!(rt; "memory"),
@@ -378,19 +395,128 @@ fn half_spent(rt: &impl Abort, alloc: Global, defs: &Defs) -> Machine {
 }
 
 fn open(rt: &impl Abort, machine: &mut Machine) -> u64
-    ensures opened { IsSessionOpen machine.new result }
-    ensures defined { definitions machine.new.tables ≡ definitions machine.old.tables }
+    ensures mode { mode_of machine.new result ≡ Some SessionMode.NonOwner }
+    ensures tables { machine.new.tables ≡ machine.old.tables }
 {
     machine.open().expect(rt, "memory")
 }
 
 // The row, which has to be one for the table at this place.
 fn row_in(rt: &impl Abort, machine: &Machine, place: u32, row: Row) -> Row
+    requires { place < length machine.now.tables }
     ensures { IsRowFor (definitions machine.now.tables) place result }
 {
     let table = machine.table(place);
+    tables_are_valid(table);
     match fits(table.columns(), &row) {
         Ok(()) => row,
         Err(_) => panic!(rt; "the row does not fit"),
     }
+}
+
+// A check foretells what the insert behind it comes to. The last number is 2^62 - 1.
+#[test]
+fn numbers_of_rows_are_used_up(rt: HostRuntime) {
+    let alloc = rt.alloc();
+    let cases = [
+        (1, Check::New, Some(1)),
+        (5, Check::New, Some(5)),
+        ((1 << 62) - 1, Check::New, Some((1 << 62) - 1)),
+        (1 << 62, Check::Spent, None),
+    ];
+    for (next, wanted, number) in cases {
+        let mut machine = numbered_from(&rt, alloc, next);
+        let session = open(&rt, &mut machine);
+        let row = row_of(&rt, alloc, &[Number(3), Text("a")]);
+        let row = row_in(&rt, &machine, 0, row);
+        assert_eq!(rt; machine.check(session, 0, &row), wanted);
+        match machine.insert(session, 0, row) {
+            Ok(added) => assert_eq!(rt; Some(added), number.map(Added::New)),
+            Err((fault, row)) => {
+                assert_eq!(rt; (fault, row.len(), number), (AddFault::Spent, 2, None));
+            }
+        }
+    }
+}
+
+// Adds a row in a session of its own, which stays open.
+fn add(rt: &impl Abort, alloc: Global, defs: &Defs, machine: &mut RecordedMachine) -> Added
+    requires { definitions_of machine.old.seen ≡ defs.now }
+    ensures { definitions_of machine.new.seen ≡ defs.now }
+{
+    assert!(rt; machine.reserve(1).is_ok());
+    let session = machine.open().expect(rt, "memory");
+    assert!(rt; machine.reserve(1).is_ok());
+    let row = row_of(rt, alloc, &[Number(3), Text("a")]);
+    let row = row_for(rt, defs, 0, row);
+    let copy = row.copy(alloc).expect(rt, "memory");
+    machine.insert(session, 0, row, copy).expect(rt, "a row")
+}
+
+// Looks in a new session, and tells its number and what it owns then.
+fn look(
+    rt: &impl Abort,
+    alloc: Global,
+    defs: &Defs,
+    machine: &mut RecordedMachine,
+) -> (u64, SessionMode)
+    requires { definitions_of machine.old.seen ≡ defs.now }
+    ensures is_open { IsOpenFor machine.new.seen 0 result.0 }
+    ensures defined { definitions_of machine.new.seen ≡ defs.now }
+{
+    assert!(rt; machine.reserve(1).is_ok());
+    let session = machine.open().expect(rt, "memory");
+    assert!(rt; machine.mode(session) == SessionMode::NonOwner);
+    assert!(rt; machine.reserve(1).is_ok());
+    let _ = machine.look(session, list_of(rt, alloc, defs, &[(0, "")]));
+    (session, machine.mode(session))
+}
+
+fn look_and_close(
+    rt: &impl Abort,
+    alloc: Global,
+    defs: &Defs,
+    machine: &mut RecordedMachine,
+) -> SessionMode
+    requires { definitions_of machine.old.seen ≡ defs.now }
+    ensures { definitions_of machine.new.seen ≡ defs.now }
+{
+    let (session, mode) = look(rt, alloc, defs, machine);
+    assert!(rt; machine.reserve(1).is_ok());
+    machine.close(session);
+    mode
+}
+
+// A close gives the row back to its old place, and leaves those that other sessions own.
+#[test]
+fn owned_at_close(rt: HostRuntime) {
+    let alloc = rt.alloc();
+    let defs = defs_of(&rt, alloc, b"");
+    let mut machine = RecordedMachine::new(alloc, &defs).expect(&rt, "memory");
+    assert_eq!(rt;
+        look_and_close(&rt, alloc, &defs, &mut machine),
+        SessionMode::Empty
+    );
+    assert_eq!(rt; add(&rt, alloc, &defs, &mut machine), Added::New(1));
+    assert_eq!(rt; add(&rt, alloc, &defs, &mut machine), Added::New(2));
+    assert_eq!(rt;
+        look_and_close(&rt, alloc, &defs, &mut machine),
+        SessionMode::Owner(0, 1)
+    );
+    assert_eq!(rt;
+        look(&rt, alloc, &defs, &mut machine),
+        (5, SessionMode::Owner(0, 1))
+    );
+    assert_eq!(rt;
+        look_and_close(&rt, alloc, &defs, &mut machine),
+        SessionMode::Owner(0, 2)
+    );
+    assert_eq!(rt;
+        look(&rt, alloc, &defs, &mut machine),
+        (7, SessionMode::Owner(0, 2))
+    );
+    assert_eq!(rt;
+        look_and_close(&rt, alloc, &defs, &mut machine),
+        SessionMode::Empty
+    );
 }
