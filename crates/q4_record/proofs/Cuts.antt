@@ -89,7 +89,6 @@ ill_of_not_text columns bytes n f = record {
   ill = ill_text f.column.kind f.rest (length (row_bytes f.front)) _ n f.unreadable;
 }
 
-
 same_cut : (c d : Column) (front other : List Value) (rest more : List ℕ) → SamePlace c d front other rest more → (list_any is_long front || tells_long c.kind rest) ≡ (list_any is_long other || tells_long d.kind more)
 same_cut c d front other rest more s =
     ap (λ vs. list_any is_long vs || tells_long c.kind rest) s.fronts ∙ ap (λ bs. list_any is_long other || tells_long c.kind bs) s.rests ∙ ap (λ (e : Column). list_any is_long other || tells_long e.kind more) (sym s.column)

@@ -18,7 +18,6 @@ use Rattle.q4_record.specs.Parts.{RowStands, RowPasses, NoRow}
 use Rattle.q4_record.proofs.Cuts.{wide_row, none_long, short_row, none_of_cut, none_of_ill}
 use Rattle.q4_record.proofs.Limits.{Within, within}
 
-
 pub whole_passes : (old : Replay) (number : ℕ) (origin : Option Origin) (bytes : List ℕ) (len : ℕ) (long : Bool) (limit : ℕ) (answer : Option ℕ) → WholeRow old.table.columns bytes len long
     → ((origin : Option Origin) (row : List Value) → len ≡ row_size row → long ≡ list_any is_long row → answer ≡ passed_limit (table_after old.table (Insert number origin) row) row)
     → answer ≡ Some limit → RowPasses old (Insert number origin) bytes limit

@@ -162,7 +162,7 @@ batches_compare replay [] (c ∷ cs) x y a d left also few e = inr (inl (ahead_o
 batches_compare replay (b ∷ bs) [] x y a d left also few e = inr (inr (ahead_of replay b bs x y a.0 few left (sym e)))
 batches_compare replay (b ∷ bs) (c ∷ cs) x y a d left also few e =
     let one = parts_once (records_bytes b) (records_bytes c) (batches_bytes bs ++ x) (batches_bytes cs ++ y) (few_records b bs x few) (few_records c cs y (subst (λ bs. length bs ≤ side_limit) e few))
-      (ap (drop 1) (sym (append_assoc (batch_bytes b) (batches_bytes bs) x) ∙ e ∙ append_assoc (batch_bytes c) (batches_bytes cs) y)) in
+    (ap (drop 1) (sym (append_assoc (batch_bytes b) (batches_bytes bs) x) ∙ e ∙ append_assoc (batch_bytes c) (batches_bytes cs) y)) in
     let same = section_once replay b c a.0 d.0 one.0 in
     elim (batches_compare (replays replay b) bs cs x y a.1 (subst (λ q. BatchesStand (replays replay q) cs) (sym same) d.1) left also (behind_few b bs x few) one.1) [
       | inl equal ↦ inl ((λ i. same i ∷ equal.0 i), equal.1)

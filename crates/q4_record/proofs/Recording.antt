@@ -59,11 +59,11 @@ not_now old head bytes after is e not_may = (
 no_record : (old : Replay) (head : Head) (bytes after : List ℕ) → IsHead head → bytes ≡ head_bytes head ++ after → NoRow old head after → ((r : Record) (rest : List ℕ) → Comes old bytes r rest → ⊥) × (BreaksOff old bytes → ⊥)
 no_record old head bytes after is e none = (
   λ r rest comes.
-  let same = behind_head head bytes after r rest is e comes.is.head comes.bytes_are in
-  none.none r.row rest (subst (λ h. IsWideRow (row_columns old.table.columns h) r.row) (sym same.0) comes.is.row) same.1,
+      let same = behind_head head bytes after r rest is e comes.is.head comes.bytes_are in
+      none.none r.row rest (subst (λ h. IsWideRow (row_columns old.table.columns h) r.row) (sym same.0) comes.is.row) same.1,
   λ b.
-  let same = head_once head b.head after b.row is b.is (sym e ∙ b.bytes_are) in
-  none.not_long (subst (λ h. CutLong (row_columns old.table.columns h) after) (sym same.0) (subst (CutLong (row_columns old.table.columns b.head)) (sym same.1) b.cut)),
+      let same = head_once head b.head after b.row is b.is (sym e ∙ b.bytes_are) in
+      none.not_long (subst (λ h. CutLong (row_columns old.table.columns h) after) (sym same.0) (subst (CutLong (row_columns old.table.columns b.head)) (sym same.1) b.cut)),
 )
 
 passing : (old : Replay) (head : Head) (bytes after : List ℕ) (limit : ℕ) → IsHead head → bytes ≡ head_bytes head ++ after → MayCome old.stage old.table head
