@@ -1,16 +1,14 @@
 -- The records of a base are of rows, then marks, then one next record.
-use Rattle.std.proofs.Common.{◌≡◌, ℕ, ◌<◌, List, [], ◌∷◌, ◌++◌, Option, None, Some, length, map, refl, sym, ap, subst, ◌∙◌, arith}
+use Rattle.std.proofs.Common.{◌≡◌, ℕ, ◌<◌, List, [], ◌∷◌, ◌++◌, None, Some, map, refl, sym, ap, subst, ◌∙◌, arith}
 use Rattle.std.specs.List.{All}
 use Rattle.std.proofs.lemmas.List.Elements.{All-nil, All-cons, All-weaker}
 use Rattle.q4_value.specs.declared.column.Column.{Column}
-use Rattle.q4_value.specs.declared.row.Value.{Value}
 use Rattle.q4_table.specs.declared.marks.Mark as marks
 use Rattle.q4_table.specs.TableState.{TableState}
 use Rattle.q4_table.specs.Valid.{SourcesRise}
 use Rattle.q4_record.specs.declared.head.Head.{Head}
 use Rattle.q4_record.specs.declared.head.Head.TheVariants.{Insert, End, Mark, Next}
 use Rattle.q4_record.specs.declared.replay.Replay.{Replay}
-use Rattle.q4_record.specs.declared.replay.Stage.{Stage}
 use Rattle.q4_record.specs.declared.replay.Stage.TheVariants as stage
 use Rattle.q4_record.specs.Wide.{IsWideRow}
 use Rattle.q4_record.specs.Record.{Record, records_bytes, row_columns}

@@ -1,5 +1,5 @@
 -- A record at the front of bytes: that it stands, or why none does.
-use Rattle.std.proofs.Common.{◌≡◌, ℕ, ◌+◌, ◌-◌, ◌≤◌, ◌⊎◌, List, [], ◌∷◌, ◌++◌, Option, None, Some, length, inl, inr, refl, sym, ap, subst, ◌∙◌, append_assoc}
+use Rattle.std.proofs.Common.{◌≡◌, ℕ, ◌≤◌, ◌⊎◌, List, [], ◌++◌, length, inl, inr, refl, sym, ap, subst, ◌∙◌, append_assoc}
 use Rattle.std.proofs.lemmas.List.Elements.{All-nil}
 use Rattle.q4_value.specs.declared.row.Value.{Value}
 use Rattle.q4_value.specs.Spelling.{row_bytes}
@@ -11,12 +11,10 @@ use Rattle.q4_record.specs.declared.replay.Replay.{Replay}
 use Rattle.q4_record.specs.declared.side.SideFault.{SideFault}
 use Rattle.q4_record.specs.declared.side.SideFault.TheVariants as fault
 use Rattle.q4_record.specs.Wide.{IsWideValue, IsWideRow, CutLong}
-use Rattle.q4_record.specs.Record.{Record, head_bytes, record_bytes, row_columns, IsHead, IsRecord}
-use Rattle.q4_record.specs.Replay.{MayCome, table_after, replayed, passed_limit, Stands}
-use Rattle.q4_record.specs.Reading.{Comes, BreaksOff, Passes, RecordFails}
+use Rattle.q4_record.specs.Record.{Record, head_bytes, record_bytes, row_columns, IsHead}
+use Rattle.q4_record.specs.Replay.{MayCome, table_after, replayed, Stands}
+use Rattle.q4_record.specs.Reading.{Comes, BreaksOff, Passes}
 use Rattle.q4_record.specs.Parts.{IsReady, RowStands, RowPasses, NoRow, RowFails, RecordStood, RecordFailed}
-use Rattle.q4_record.proofs.WideRows.{rows_once}
-use Rattle.q4_record.proofs.Cuts.{cut_not_whole}
 use Rattle.q4_record.proofs.Heads.{head_once}
 use Rattle.q4_record.proofs.Limits.{ended_within, table_within}
 

@@ -1,20 +1,19 @@
 -- The records of a table's base stand, and lead to the table.
-use Rattle.std.proofs.Common.{◌≡◌, ℕ, ◌+◌, ◌^◌, ◌<◌, ◌≤◌, Bool, true, false, cond, ltb, List, [], ◌∷◌, ◌++◌, None, Some, length, map, refl, sym, ap, subst, ◌∙◌, append_assoc, arith}
-use Rattle.std.specs.List.{All, filter, sum_by}
+use Rattle.std.proofs.Common.{◌≡◌, ℕ, ◌+◌, ◌<◌, ◌≤◌, Bool, true, false, cond, ltb, List, [], ◌∷◌, ◌++◌, None, length, map, refl, sym, ap, subst, ◌∙◌, append_assoc, arith}
+use Rattle.std.specs.List.{All, filter}
 use Rattle.std.proofs.lemmas.Bool.{le-ltb}
 use Rattle.std.proofs.lemmas.List.{append-nil, length-append, length_push}
 use Rattle.std.proofs.lemmas.List.Elements.{All-nil, All-head, All-tail, All-cons, All-push, All-weaker}
 use Rattle.std.proofs.lemmas.List.Sums.{fold-append, sum_by-append, sum_by-cons}
 use Rattle.q4_value.specs.declared.column.Column.{Column}
-use Rattle.q4_value.specs.Row.{Fits, row_size, row_limit}
+use Rattle.q4_value.specs.Row.{Fits, row_size}
 use Rattle.q4_table.specs.declared.marks.Mark as marks
 use Rattle.q4_table.specs.declared.rows.StoredRow.{StoredRow}
-use Rattle.q4_table.specs.TableState.{TableState, new_table}
+use Rattle.q4_table.specs.TableState.{TableState}
 use Rattle.q4_table.specs.Rows.{bytes_of, numbers_of}
 use Rattle.q4_table.specs.Marks.{with_mark}
 use Rattle.q4_table.specs.Adding.{number_limit, count_limit, bytes_limit}
 use Rattle.q4_table.specs.Valid.{RiseBelow, IsMark, SourcesRise, IsValidTable}
-use Rattle.q4_record.specs.declared.head.Head.TheVariants.{Insert, Mark, Next}
 use Rattle.q4_record.specs.declared.replay.Replay.{Replay}
 use Rattle.q4_record.specs.declared.replay.Stage.{Stage}
 use Rattle.q4_record.specs.declared.replay.Stage.TheVariants as stage

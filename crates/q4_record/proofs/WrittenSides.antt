@@ -1,12 +1,11 @@
 -- What is written of a table is a side that stands for it.
-use Rattle.std.proofs.Common.{◌≡◌, ◌≢◌, ℕ, ◌+◌, ◌^◌, ◌<◌, ◌≤◌, List, [], ◌∷◌, ◌++◌, length, take, drop, refl, sym, ap, subst, ◌∙◌, arith}
-use Rattle.std.specs.Int.{w64, to_be_bytes, from_be_bytes}
+use Rattle.std.proofs.Common.{◌≡◌, ℕ, ◌+◌, ◌^◌, ◌<◌, ◌≤◌, List, ◌∷◌, ◌++◌, length, take, drop, refl, sym, ap, subst, ◌∙◌, arith}
 use Rattle.std.proofs.lemmas.List.{take_at, drop_at, drop-drop, length-append}
 use Rattle.std.proofs.lemmas.Nat.{from_be_bytes-to_be_bytes_8}
 use Rattle.q4_table.specs.TableState.{TableState}
 use Rattle.q4_record.specs.Record.{Record}
 use Rattle.q4_record.specs.Replay.{at_batches}
-use Rattle.q4_record.specs.Side.{side_limit, generation_limit, base_at, told_at, generation_of, base_length_of, base_of, behind_base, batches_bytes, after_batches, place_behind, IsWhole, Side}
+use Rattle.q4_record.specs.Side.{generation_limit, base_at, told_at, generation_of, base_length_of, base_of, behind_base, batches_bytes, after_batches, Side}
 use Rattle.q4_record.specs.Written.{side_bytes, base_bytes, base_records, written, written_table, written_length, IsWritten}
 use Rattle.q4_record.proofs.WrittenBases.{base_written}
 
