@@ -1,9 +1,8 @@
 -- The base, from its schema to its next record.
-use Rattle.std.proofs.Common.{◌≡◌, ℕ, ◌+◌, ◌-◌, List, [], ◌∷◌, ◌++◌, length, inl, inr, refl, sym, ap, subst, ◌∙◌, arith}
+use Rattle.std.proofs.Common.{◌≡◌, ℕ, ◌+◌, ◌-◌, List, ◌++◌, length, inl, inr, ap, subst, arith}
 use Rattle.std.proofs.lemmas.List.{length-append}
 use Rattle.q4_value.specs.declared.column.Column.{Column}
 use Rattle.q4_table.specs.TableState.{TableState, new_table}
-use Rattle.q4_record.specs.declared.replay.Replay.{Replay}
 use Rattle.q4_record.specs.declared.replay.Stage.TheVariants as stage
 use Rattle.q4_record.specs.declared.side.SideFault.{SideFault}
 use Rattle.q4_record.specs.declared.side.SideFault.TheVariants as fault
@@ -11,7 +10,7 @@ use Rattle.q4_record.specs.Replay.{at_base}
 use Rattle.q4_record.specs.Reading.{SectionFails}
 use Rattle.q4_record.specs.Schema.{schema_bytes}
 use Rattle.q4_record.specs.Side.{base_at}
-use Rattle.q4_record.specs.Faults.{RecordsFail, BaseFails}
+use Rattle.q4_record.specs.Faults.{BaseFails}
 use Rattle.q4_record.specs.Parts.{SectionFailed}
 use Rattle.q4_record.specs.SideParts.{BaseFailed}
 

@@ -1,19 +1,18 @@
 -- Batches, one after the other.
-use Rattle.std.proofs.Common.{◌≡◌, ◌≢◌, ℕ, ◌+◌, ◌-◌, ◌^◌, ◌<◌, ◌≤◌, ◌⊎◌, List, [], ◌∷◌, ◌++◌, length, inl, inr, refl, sym, ap, subst, ◌∙◌, append_assoc, arith}
+use Rattle.std.proofs.Common.{◌≡◌, ◌≢◌, ℕ, ◌+◌, ◌-◌, ◌<◌, ◌≤◌, ◌⊎◌, List, [], ◌∷◌, ◌++◌, length, inl, inr, refl, sym, ap, subst, ◌∙◌, append_assoc, arith}
 use Rattle.std.specs.Int.{w32, to_be_bytes}
 use Rattle.std.proofs.lemmas.List.{length-append, flat_map_more}
 use Rattle.std.proofs.lemmas.List.Sums.{fold_push}
 use Rattle.q4_value.specs.Reading.{told_length}
 use Rattle.q4_table.specs.TableState.{TableState}
 use Rattle.q4_record.specs.declared.replay.Replay.{Replay}
-use Rattle.q4_record.specs.declared.replay.Stage.TheVariants as stage
 use Rattle.q4_record.specs.declared.side.SideFault.{SideFault}
 use Rattle.q4_record.specs.declared.side.SideFault.TheVariants as fault
-use Rattle.q4_record.specs.Record.{Record, records_bytes}
+use Rattle.q4_record.specs.Record.{Record}
 use Rattle.q4_record.specs.Replay.{replays, at_batches, AllStand}
 use Rattle.q4_record.specs.Reading.{SectionFails}
 use Rattle.q4_record.specs.Side.{side_limit, batch_bytes, batches_bytes, BatchesStand, after_batches}
-use Rattle.q4_record.specs.Faults.{BatchFails, BatchRecordsFail}
+use Rattle.q4_record.specs.Faults.{BatchFails}
 use Rattle.q4_record.specs.Parts.{SectionStood, SectionFailed}
 use Rattle.q4_record.specs.SideParts.{LeadsTo, BatchesRead, NextFails, BatchesFailed}
 

@@ -1,10 +1,7 @@
 -- Where a row ends too early or is ill-formed, and what that says of the rows that could stand there.
-use Rattle.std.proofs.Common.{◌≡◌, ℕ, ◌<◌, ◌≤◌, ◌||◌, ◌&&◌, Bool, true, false, List, [], ◌∷◌, ◌++◌, length, take, drop, inl, inr, refl, sym, ap, subst, ◌∙◌, arith}
+use Rattle.std.proofs.Common.{◌≡◌, ℕ, ◌||◌, true, false, List, [], ◌∷◌, ◌++◌, length, inl, inr, refl, sym, ap, subst, ◌∙◌, arith}
 use Rattle.std.specs.List.{All, list_any}
-use Rattle.std.specs.Int.{w32, to_be_bytes}
-use Rattle.std.specs.Str.{IsUtf8}
 use Rattle.std.proofs.lemmas.Bool.{cases_lt, false≢true}
-use Rattle.std.proofs.lemmas.List.{length-take-le, take-append-drop, append-nil}
 use Rattle.std.proofs.lemmas.List.Elements.{All-weaker, All-cons, All-nil, All-head, All-tail}
 use Rattle.std.proofs.lemmas.List.Folds.{list_any_none}
 use Rattle.q4_value.specs.declared.column.Column.{Column}
@@ -13,12 +10,12 @@ use Rattle.q4_value.specs.declared.column.Kind.TheVariants as kind
 use Rattle.q4_value.specs.declared.reading.RowBytes.TheVariants as fault
 use Rattle.q4_value.specs.declared.row.Value.{Value}
 use Rattle.q4_value.specs.declared.row.Value.TheVariants.{Int, Word}
-use Rattle.q4_value.specs.Row.{text_limit, kind_of, IsValue, IsRowOf}
-use Rattle.q4_value.specs.Reading.{told_length, TellsTooMuch, EndsInText, IsUnreadable, FirstUnreadable}
-use Rattle.q4_value.specs.Spelling.{value_bytes, row_bytes}
-use Rattle.q4_record.specs.Wide.{IsWideValue, IsWideRow, is_long, EndsInValue, tells_long, ReachesColumn, CutLong}
-use Rattle.q4_record.specs.Extents.{WholeValue, IsIllValue, WholeRow, CutRow, IllRow}
-use Rattle.q4_record.proofs.WideRows.{IsStop, SamePlace, one_stop, stands_not, ends_apart}
+use Rattle.q4_value.specs.Row.{text_limit, IsValue, IsRowOf}
+use Rattle.q4_value.specs.Reading.{told_length, TellsTooMuch, IsUnreadable, FirstUnreadable}
+use Rattle.q4_value.specs.Spelling.{row_bytes}
+use Rattle.q4_record.specs.Wide.{IsWideValue, IsWideRow, is_long, EndsInValue, tells_long, CutLong}
+use Rattle.q4_record.specs.Extents.{IsIllValue, CutRow, IllRow}
+use Rattle.q4_record.proofs.WideRows.{SamePlace, one_stop, stands_not, ends_apart}
 
 -- a value of a row may be a wide one
 wide_value : (v : Value) → IsValue v → IsWideValue v
@@ -88,7 +85,6 @@ ill_of_not_text columns bytes n f = record {
   reaches = record { before = f.before; after = f.after; columns_are = f.columns_are; row_of = wide_row f.before f.front f.row_of; bytes_are = f.bytes_are };
   ill = ill_text f.column.kind f.rest (length (row_bytes f.front)) _ n f.unreadable;
 }
-
 
 same_cut : (c d : Column) (front other : List Value) (rest more : List ℕ) → SamePlace c d front other rest more → (list_any is_long front || tells_long c.kind rest) ≡ (list_any is_long other || tells_long d.kind more)
 same_cut c d front other rest more s =

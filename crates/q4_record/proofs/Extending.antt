@@ -1,6 +1,6 @@
 -- How far a row goes, value by value.
-use Rattle.std.proofs.Common.{◌≡◌, ℕ, ◌+◌, ◌-◌, ◌^◌, ◌<◌, ◌≤◌, ◌||◌, Bool, true, false, List, [], ◌∷◌, ◌++◌, length, get_or, take, drop, ltb, refl, sym, ap, subst, ◌∙◌, append_assoc, arith}
-use Rattle.std.specs.List.{All, list_any}
+use Rattle.std.proofs.Common.{◌≡◌, ℕ, ◌+◌, ◌-◌, ◌^◌, ◌<◌, ◌≤◌, ◌||◌, Bool, false, List, [], ◌∷◌, ◌++◌, length, get_or, take, drop, ltb, refl, sym, ap, subst, ◌∙◌, append_assoc, arith}
+use Rattle.std.specs.List.{list_any}
 use Rattle.std.specs.Int.{w32, to_be_bytes}
 use Rattle.std.specs.Str.{IsUtf8}
 use Rattle.std.proofs.lemmas.List.{length-take-le, take-append-drop, drop_at, take_all, length-append, flat_map_more}
@@ -59,7 +59,7 @@ more_there columns bytes i rest long c len value_long lt c_is so w =
       front = so.front ++ w.value ∷ [];
       is = subst (λ cs. IsWideRow cs (so.front ++ w.value ∷ [])) (sym (take_next columns i c lt c_is)) (row_push (take i columns) so.front c w.value so.is w.kind_is w.is);
       bytes_are = so.bytes_are ∙ ap (λ bs. row_bytes so.front ++ bs) w.bytes_are ∙ sym (append_assoc (row_bytes so.front) (value_bytes w.value) w.rest)
-        ∙ ap (λ bs. bs ++ w.rest) (flat_map_more value_bytes [] so.front w.value) ∙ ap (λ bs. row_bytes (so.front ++ w.value ∷ []) ++ bs) (sym behind);
+          ∙ ap (λ bs. bs ++ w.rest) (flat_map_more value_bytes [] so.front w.value) ∙ ap (λ bs. row_bytes (so.front ++ w.value ∷ []) ++ bs) (sym behind);
       long_is = ap (λ b. b || value_long) so.long_is ∙ ap (λ b. list_any is_long so.front || b) (w.long_is ∙ sym (one_any w.value)) ∙ sym (list_any-append is_long so.front (w.value ∷ []));
     }
 

@@ -1,5 +1,5 @@
 -- A record's head shows which record it is, and where the head ends.
-use Rattle.std.proofs.Common.{◌≡◌, ℕ, ◌^◌, ◌<◌, List, [], ◌∷◌, ◌++◌, Option, None, Some, drop, get_or, refl, sym, ap, ◌∙◌}
+use Rattle.std.proofs.Common.{◌≡◌, ℕ, ◌^◌, ◌<◌, List, ◌++◌, None, Some, drop, get_or, refl, ap}
 use Rattle.std.specs.Int.{w64, to_be_bytes}
 use Rattle.q4_value.proofs.Rows.{append_same}
 use Rattle.q4_table.specs.declared.origin.Mode.{Mode}

@@ -1,5 +1,5 @@
 -- What an insert's row says of the record.
-use Rattle.std.proofs.Common.{◌≡◌, ℕ, ◌++◌, Bool, true, false, List, [], ◌∷◌, Option, None, Some, length, drop, refl, sym, ap, subst, ◌∙◌}
+use Rattle.std.proofs.Common.{◌≡◌, ℕ, ◌++◌, Bool, false, List, Option, None, Some, length, drop, refl, sym, ap, ◌∙◌}
 use Rattle.std.specs.List.{list_any}
 use Rattle.std.proofs.lemmas.List.{drop_at}
 use Rattle.q4_value.specs.declared.row.Value.{Value}
@@ -8,16 +8,14 @@ use Rattle.q4_value.specs.Reading.{Reads}
 use Rattle.q4_value.specs.Spelling.{row_bytes}
 use Rattle.q4_value.proofs.Spelled.{length-row_bytes}
 use Rattle.q4_table.specs.declared.origin.Origin.{Origin}
-use Rattle.q4_record.specs.declared.head.Head.{Head}
 use Rattle.q4_record.specs.declared.head.Head.TheVariants.{Insert}
 use Rattle.q4_record.specs.declared.replay.Replay.{Replay}
-use Rattle.q4_record.specs.Wide.{is_long, CutLong}
+use Rattle.q4_record.specs.Wide.{is_long}
 use Rattle.q4_record.specs.Extents.{WholeRow, CutRow, IllRow}
 use Rattle.q4_record.specs.Replay.{table_after, replayed, passed_limit}
 use Rattle.q4_record.specs.Parts.{RowStands, RowPasses, NoRow}
 use Rattle.q4_record.proofs.Cuts.{wide_row, none_long, short_row, none_of_cut, none_of_ill}
-use Rattle.q4_record.proofs.Limits.{Within, within}
-
+use Rattle.q4_record.proofs.Limits.{within}
 
 pub whole_passes : (old : Replay) (number : ℕ) (origin : Option Origin) (bytes : List ℕ) (len : ℕ) (long : Bool) (limit : ℕ) (answer : Option ℕ) → WholeRow old.table.columns bytes len long
     → ((origin : Option Origin) (row : List Value) → len ≡ row_size row → long ≡ list_any is_long row → answer ≡ passed_limit (table_after old.table (Insert number origin) row) row)

@@ -12,3 +12,7 @@ pub mod Bases
 pub mod Sides
 pub mod Once
 pub mod OneSide
+pub mod WrittenBases
+pub mod WrittenSides
+pub mod Changes
+pub mod PartedBases

@@ -1,20 +1,16 @@
 -- What it means that no limit is passed, and which records pass none.
-use Rattle.std.proofs.Common.{◌≡◌, ℕ, ◌+◌, ◌^◌, ◌<◌, ◌≤◌, Bool, true, false, cond, ltb, List, [], ◌∷◌, Option, None, Some, length, not, eqb, refl, sym, ap, subst, ◌∙◌, arith}
-use Rattle.std.specs.List.{list_any, filter, sum_by}
+use Rattle.std.proofs.Common.{◌≡◌, ℕ, ◌≤◌, Bool, true, false, cond, ltb, List, [], Option, None, Some, length, not, eqb, refl, arith}
+use Rattle.std.specs.List.{list_any}
 use Rattle.std.proofs.lemmas.Bool.{ltb-false, le-ltb}
 use Rattle.std.proofs.lemmas.List.Filters.{length-filter_both, sum_by-filter_both}
 use Rattle.q4_value.specs.declared.row.Value.{Value}
 use Rattle.q4_value.specs.Row.{row_limit, row_size}
 use Rattle.q4_table.specs.declared.rows.StoredRow.{StoredRow}
-use Rattle.q4_table.specs.TableState.{TableState, new_table}
+use Rattle.q4_table.specs.TableState.{TableState}
 use Rattle.q4_table.specs.Rows.{bytes_of, without_row}
 use Rattle.q4_table.specs.Adding.{number_limit, count_limit, bytes_limit}
-use Rattle.q4_record.specs.declared.head.Head.TheVariants.{Insert, End, Mark, Next}
-use Rattle.q4_record.specs.declared.replay.Replay.{Replay}
 use Rattle.q4_record.specs.Wide.{is_long}
-use Rattle.q4_record.specs.Record.{Record}
-use Rattle.q4_record.specs.Replay.{passed_limit, table_after, replayed}
-use Rattle.q4_record.specs.Parts.{IsReady}
+use Rattle.q4_record.specs.Replay.{passed_limit}
 
 -- No limit is passed.
 pub record Within (table : TableState) (row : List Value) : Type 0 where

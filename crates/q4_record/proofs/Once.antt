@@ -1,5 +1,5 @@
 -- Bytes stand for one list of records at most, or fail in one way.
-use Rattle.std.proofs.Common.{◌≡◌, ◌≢◌, ℕ, ◌+◌, ◌<◌, ◌≤◌, ◌⊎◌, List, [], ◌∷◌, ◌++◌, Option, None, Some, length, inl, inr, refl, sym, ap, subst, ◌∙◌, append_assoc, arith}
+use Rattle.std.proofs.Common.{◌≡◌, ℕ, ◌+◌, ◌⊎◌, List, [], ◌∷◌, ◌++◌, Option, None, Some, length, inl, inr, refl, sym, ap, subst, ◌∙◌, append_assoc}
 use Rattle.std.proofs.lemmas.List.{append-nil}
 use Rattle.q4_value.specs.declared.column.Column.{Column}
 use Rattle.q4_value.specs.Spelling.{row_bytes}
@@ -8,7 +8,7 @@ use Rattle.q4_record.specs.declared.head.Head.TheVariants.{Insert, End, Mark, Ne
 use Rattle.q4_record.specs.declared.replay.Replay.{Replay}
 use Rattle.q4_record.specs.declared.side.SideFault.{SideFault}
 use Rattle.q4_record.specs.declared.side.SideFault.TheVariants as fault
-use Rattle.q4_record.specs.Wide.{IsWideRow, CutLong}
+use Rattle.q4_record.specs.Wide.{IsWideRow}
 use Rattle.q4_record.specs.Record.{Record, head_bytes, record_bytes, records_bytes, row_columns, IsRecord}
 use Rattle.q4_record.specs.Replay.{replayed, replays, passed_limit, Stands, AllStand}
 use Rattle.q4_record.specs.Reading.{Comes, BreaksOff, Passes, RecordFails, SectionFails}

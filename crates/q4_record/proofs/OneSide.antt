@@ -1,23 +1,22 @@
 -- Bytes are one side at most, or fail in one way.
-use Rattle.std.proofs.Common.{◌≡◌, ◌≢◌, ℕ, suc, ◌+◌, ◌*◌, ◌^◌, ◌<◌, ◌≤◌, ◌⊎◌, List, [], ◌∷◌, ◌++◌, Result, Ok, Err, length, get_or, drop, inl, inr, refl, sym, ap, subst, ◌∙◌, append_assoc, arith}
+use Rattle.std.proofs.Common.{◌≡◌, ◌≢◌, ℕ, suc, ◌+◌, ◌^◌, ◌<◌, ◌≤◌, ◌⊎◌, List, [], ◌∷◌, ◌++◌, Result, Ok, Err, length, get_or, drop, inl, inr, refl, sym, ap, subst, ◌∙◌, append_assoc, arith}
 use Rattle.std.specs.Prelude.{IfOk, IfErr}
-use Rattle.std.specs.Int.{w32, to_be_bytes, from_be_bytes}
-use Rattle.std.proofs.lemmas.List.{append-nil, append_cancel_left, length-append, length-drop}
+use Rattle.std.specs.Int.{w32, to_be_bytes}
+use Rattle.std.proofs.lemmas.List.{append_cancel_left, length-append, length-drop}
 use Rattle.std.proofs.lemmas.Nat.{from_be_bytes-to_be_bytes_4}
 use Rattle.q4_value.specs.declared.column.Column.{Column}
 use Rattle.q4_value.specs.Reading.{told_length}
 use Rattle.q4_value.proofs.Rows.{append_same}
 use Rattle.q4_table.specs.TableState.{TableState}
 use Rattle.q4_record.specs.declared.replay.Replay.{Replay}
-use Rattle.q4_record.specs.declared.replay.Stage.TheVariants as stage
 use Rattle.q4_record.specs.declared.side.SideFault.{SideFault}
 use Rattle.q4_record.specs.declared.side.SideFault.TheVariants as fault
 use Rattle.q4_record.specs.Record.{Record, records_bytes}
 use Rattle.q4_record.specs.Replay.{replays, at_base, at_batches, AllStand}
 use Rattle.q4_record.specs.Reading.{SectionFails}
 use Rattle.q4_record.specs.Schema.{schema_bytes, IsSchema, DifferFirst, DifferAt, OtherSchema, SchemaFails}
-use Rattle.q4_record.specs.Side.{side_limit, base_at, base_length_of, base_of, behind_base, generation_of, IsOpen, Begins, IsBase, batch_bytes, batches_bytes, BatchesStand, after_batches, Reaches, place_behind, IsWhole, HasRoom, Side}
-use Rattle.q4_record.specs.Faults.{HeaderFails, RecordsFail, Unfinished, BaseFails, EndsInBatch, BatchRecordsFail, BatchFails, BatchesFail, LacksRoom, OpenFails, SideFails}
+use Rattle.q4_record.specs.Side.{side_limit, base_at, base_length_of, base_of, IsOpen, Begins, IsBase, batch_bytes, batches_bytes, BatchesStand, after_batches, Reaches, place_behind, IsWhole, HasRoom, Side}
+use Rattle.q4_record.specs.Faults.{HeaderFails, RecordsFail, BaseFails, EndsInBatch, BatchRecordsFail, BatchFails, BatchesFail, OpenFails, SideFails}
 use Rattle.q4_record.proofs.WideRows.{same_length}
 use Rattle.q4_record.proofs.Schemas.{schema_once}
 use Rattle.q4_record.proofs.Once.{section_once, section_stands, section_fails_once}
@@ -162,7 +161,7 @@ batches_compare replay [] (c ∷ cs) x y a d left also few e = inr (inl (ahead_o
 batches_compare replay (b ∷ bs) [] x y a d left also few e = inr (inr (ahead_of replay b bs x y a.0 few left (sym e)))
 batches_compare replay (b ∷ bs) (c ∷ cs) x y a d left also few e =
     let one = parts_once (records_bytes b) (records_bytes c) (batches_bytes bs ++ x) (batches_bytes cs ++ y) (few_records b bs x few) (few_records c cs y (subst (λ bs. length bs ≤ side_limit) e few))
-      (ap (drop 1) (sym (append_assoc (batch_bytes b) (batches_bytes bs) x) ∙ e ∙ append_assoc (batch_bytes c) (batches_bytes cs) y)) in
+    (ap (drop 1) (sym (append_assoc (batch_bytes b) (batches_bytes bs) x) ∙ e ∙ append_assoc (batch_bytes c) (batches_bytes cs) y)) in
     let same = section_once replay b c a.0 d.0 one.0 in
     elim (batches_compare (replays replay b) bs cs x y a.1 (subst (λ q. BatchesStand (replays replay q) cs) (sym same) d.1) left also (behind_few b bs x few) one.1) [
       | inl equal ↦ inl ((λ i. same i ∷ equal.0 i), equal.1)

@@ -1,5 +1,5 @@
 -- A record at the front of bytes: that it stands, or why none does.
-use Rattle.std.proofs.Common.{◌≡◌, ℕ, ◌+◌, ◌-◌, ◌≤◌, ◌⊎◌, List, [], ◌∷◌, ◌++◌, Option, None, Some, length, inl, inr, refl, sym, ap, subst, ◌∙◌, append_assoc}
+use Rattle.std.proofs.Common.{◌≡◌, ℕ, ◌≤◌, ◌⊎◌, List, [], ◌++◌, length, inl, inr, refl, sym, ap, subst, ◌∙◌, append_assoc}
 use Rattle.std.proofs.lemmas.List.Elements.{All-nil}
 use Rattle.q4_value.specs.declared.row.Value.{Value}
 use Rattle.q4_value.specs.Spelling.{row_bytes}
@@ -11,12 +11,10 @@ use Rattle.q4_record.specs.declared.replay.Replay.{Replay}
 use Rattle.q4_record.specs.declared.side.SideFault.{SideFault}
 use Rattle.q4_record.specs.declared.side.SideFault.TheVariants as fault
 use Rattle.q4_record.specs.Wide.{IsWideValue, IsWideRow, CutLong}
-use Rattle.q4_record.specs.Record.{Record, head_bytes, record_bytes, row_columns, IsHead, IsRecord}
-use Rattle.q4_record.specs.Replay.{MayCome, table_after, replayed, passed_limit, Stands}
-use Rattle.q4_record.specs.Reading.{Comes, BreaksOff, Passes, RecordFails}
+use Rattle.q4_record.specs.Record.{Record, head_bytes, record_bytes, row_columns, IsHead}
+use Rattle.q4_record.specs.Replay.{MayCome, table_after, replayed, Stands}
+use Rattle.q4_record.specs.Reading.{Comes, BreaksOff, Passes}
 use Rattle.q4_record.specs.Parts.{IsReady, RowStands, RowPasses, NoRow, RowFails, RecordStood, RecordFailed}
-use Rattle.q4_record.proofs.WideRows.{rows_once}
-use Rattle.q4_record.proofs.Cuts.{cut_not_whole}
 use Rattle.q4_record.proofs.Heads.{head_once}
 use Rattle.q4_record.proofs.Limits.{ended_within, table_within}
 
@@ -59,11 +57,11 @@ not_now old head bytes after is e not_may = (
 no_record : (old : Replay) (head : Head) (bytes after : List ℕ) → IsHead head → bytes ≡ head_bytes head ++ after → NoRow old head after → ((r : Record) (rest : List ℕ) → Comes old bytes r rest → ⊥) × (BreaksOff old bytes → ⊥)
 no_record old head bytes after is e none = (
   λ r rest comes.
-  let same = behind_head head bytes after r rest is e comes.is.head comes.bytes_are in
-  none.none r.row rest (subst (λ h. IsWideRow (row_columns old.table.columns h) r.row) (sym same.0) comes.is.row) same.1,
+      let same = behind_head head bytes after r rest is e comes.is.head comes.bytes_are in
+      none.none r.row rest (subst (λ h. IsWideRow (row_columns old.table.columns h) r.row) (sym same.0) comes.is.row) same.1,
   λ b.
-  let same = head_once head b.head after b.row is b.is (sym e ∙ b.bytes_are) in
-  none.not_long (subst (λ h. CutLong (row_columns old.table.columns h) after) (sym same.0) (subst (CutLong (row_columns old.table.columns b.head)) (sym same.1) b.cut)),
+      let same = head_once head b.head after b.row is b.is (sym e ∙ b.bytes_are) in
+      none.not_long (subst (λ h. CutLong (row_columns old.table.columns h) after) (sym same.0) (subst (CutLong (row_columns old.table.columns b.head)) (sym same.1) b.cut)),
 )
 
 passing : (old : Replay) (head : Head) (bytes after : List ℕ) (limit : ℕ) → IsHead head → bytes ≡ head_bytes head ++ after → MayCome old.stage old.table head

@@ -8,7 +8,7 @@ use Rattle.q4_value.specs.declared.column.Column.{Column}
 use Rattle.q4_value.specs.declared.column.Kind.{Kind}
 use Rattle.q4_value.specs.declared.column.Kind.TheVariants as kind
 use Rattle.q4_value.proofs.Rows.{append_same}
-use Rattle.q4_record.specs.Schema.{kind_byte, column_bytes, schema_bytes, IsSchema, DifferFirst, DifferAt, OtherSchema}
+use Rattle.q4_record.specs.Schema.{kind_byte, column_bytes, schema_bytes, IsSchema, DifferFirst, OtherSchema}
 use Rattle.q4_record.specs.SideParts.{DiffersNext}
 
 kind_once : (a b : Kind) → kind_byte a ≡ kind_byte b → a ≡ b

@@ -28,7 +28,7 @@ pub one_more_read : (old : Replay) (bytes : List ℕ) (now : Replay) (rest : Lis
 one_more_read old bytes now rest new after so s = record {
   records = so.records ++ s.r ∷ [];
   bytes_are = so.bytes_are ∙ ap (λ bs. records_bytes so.records ++ bs) s.bytes_are ∙ sym (append_assoc (records_bytes so.records) (record_bytes s.r) after)
-    ∙ ap (λ bs. bs ++ after) (flat_map_more record_bytes [] so.records s.r);
+      ∙ ap (λ bs. bs ++ after) (flat_map_more record_bytes [] so.records s.r);
   stand = stand_push old so.records s.r so.stand (subst (λ replay. Stands replay s.r) so.now_is s.stands);
   now_is = s.new_is ∙ ap (λ replay. replayed replay s.r) so.now_is ∙ sym (fold_push replayed old so.records s.r);
 }

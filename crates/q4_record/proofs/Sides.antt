@@ -1,12 +1,12 @@
 -- A side, from its parts.
-use Rattle.std.proofs.Common.{◌≡◌, ℕ, ◌+◌, ◌-◌, ◌*◌, ◌≤◌, ◌⊎◌, List, [], ◌∷◌, ◌++◌, length, take, drop, inl, inr, refl, sym, ap, subst, ◌∙◌, arith}
-use Rattle.std.proofs.lemmas.List.{length-append, length-take-le, length-drop}
+use Rattle.std.proofs.Common.{◌≡◌, ℕ, ◌+◌, List, length, drop, inl, inr, refl, sym, ap, subst, ◌∙◌, arith}
+use Rattle.std.proofs.lemmas.List.{length-take-le, length-drop}
 use Rattle.q4_value.specs.declared.column.Column.{Column}
 use Rattle.q4_table.specs.TableState.{TableState}
 use Rattle.q4_record.specs.declared.side.SideFault.{SideFault}
 use Rattle.q4_record.specs.declared.side.SideFault.TheVariants as fault
-use Rattle.q4_record.specs.Side.{batches_bytes, base_at, base_length_of, base_of, behind_base, generation_of, Begins, IsOpen, IsBase, IsWhole, Reaches, HasRoom, Side}
-use Rattle.q4_record.specs.Faults.{RecordsFail, Unfinished, BaseFails, BatchFails, BatchesFail, LacksRoom, OpenFails, SideFails}
+use Rattle.q4_record.specs.Side.{batches_bytes, base_at, base_length_of, base_of, behind_base, generation_of, Begins, IsBase, IsWhole, HasRoom, Side}
+use Rattle.q4_record.specs.Faults.{BaseFails, BatchFails, BatchesFail, SideFails}
 use Rattle.q4_record.specs.SideParts.{HeaderFailed, BaseFailed, BatchesRead, NextFails, BatchesFailed}
 
 -- the base is as long as is told

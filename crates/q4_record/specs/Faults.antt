@@ -1,5 +1,5 @@
 -- Why bytes are no side: the first part from the front that does not stand.
-use Rattle.std.specs.Prelude.{◌≡◌, ◌≢◌, ◌<◌, ◌≤◌, ◌+◌, ◌⊎◌, ℕ, List, [], ◌∷◌, ◌++◌, Result, Ok, Err, length}
+use Rattle.std.specs.Prelude.{◌≡◌, ◌≢◌, ◌<◌, ◌≤◌, ◌+◌, ◌⊎◌, ℕ, List, [], ◌∷◌, ◌++◌, length}
 use Rattle.std.specs.Int.{w32, to_be_bytes}
 use Rattle.q4_value.specs.declared.column.Column.{Column}
 use Rattle.q4_value.specs.Reading.{told_length}
@@ -12,7 +12,7 @@ use Rattle.q4_record.specs.Record.{Record, records_bytes}
 use Rattle.q4_record.specs.Replay.{replays, at_base, AllStand}
 use Rattle.q4_record.specs.Reading.{SectionFails}
 use Rattle.q4_record.specs.Schema.{schema_bytes, SchemaFails}
-use Rattle.q4_record.specs.Side.{side_limit, generation_limit, base_at, base_of, base_length_of, generation_of, IsOpen, HasHeader, Begins, Reaches, IsWhole, place_behind, HasRoom, Side}
+use Rattle.q4_record.specs.Side.{side_limit, generation_limit, base_at, base_of, generation_of, IsOpen, HasHeader, Begins, Reaches, IsWhole, place_behind, HasRoom}
 
 -- Why the header does not stand, at an open gate: too many bytes go before damage, and damage before too great a generation.
 abbrev pub HeaderFails : List ℕ → SideFault → Type 0

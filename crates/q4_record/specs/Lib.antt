@@ -8,3 +8,5 @@ pub mod Faults
 pub mod Parts
 pub mod Extents
 pub mod SideParts
+pub mod Written
+pub mod Parted

@@ -4,10 +4,15 @@
 mod extent;
 mod fields;
 mod head;
+mod laws;
 mod replay;
 mod schema;
 mod side;
 mod writing;
 
+pub use laws::{bases_have_their_order, changes_stand, side_laws, written_sides_are_read};
 pub use side::{SideFault, read_side};
 pub use writing::{put_end, put_insert, put_mark, put_next, put_schema};
+
+#[cfg(test)]
+mod tests;

@@ -226,7 +226,13 @@ impl Replay {
     }
 
     // Why a row does not stand in which a text is told to be too long.
-    fn long_row_fault(&self, number: u64, origin: Option<Origin>, bytes: &[u8], at: u64) -> SideFault
+    fn long_row_fault(
+        &self,
+        number: u64,
+        origin: Option<Origin>,
+        bytes: &[u8],
+        at: u64,
+    ) -> SideFault
         requires { (row : List Field) (rest : List ℕ) → IsRowOf self.now.table.columns row → bytes.now ≡ row_bytes row ++ rest → ⊥ }
         ensures { RowFails self.now (Head.Insert number origin) bytes.now at result }
     {

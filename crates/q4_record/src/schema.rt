@@ -10,11 +10,7 @@ use q4_value::{Column, Kind};
 
 // Reads the schema at the front of a base that begins at this place, and gives what follows it. The schema has to be
 // that of the columns.
-pub fn read_schema<'a>(
-    columns: &[Column],
-    base: &'a [u8],
-    at: u64,
-) -> Result<&'a [u8], SideFault>
+pub fn read_schema<'a>(columns: &[Column], base: &'a [u8], at: u64) -> Result<&'a [u8], SideFault>
     requires { IsSchema columns.now }
     ensures read { IfOk result (λ rest. base.now ≡ schema_bytes columns.now ++ rest.now) }
     ensures fault { IfErr result (SchemaFails columns.now base.now at) }

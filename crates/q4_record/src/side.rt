@@ -77,11 +77,7 @@ pub fn read_side(
 }
 
 // The same, part by part.
-fn read_parts(
-    alloc: Global,
-    bytes: &[u8],
-    columns: Columns,
-) -> Result<(Table, u64, u64), SideFault>
+fn read_parts(alloc: Global, bytes: &[u8], columns: Columns) -> Result<(Table, u64, u64), SideFault>
     requires columns { IsColumns columns }
     requires schema { IsSchema columns }
     ensures side { IfOk result (λ found. Side columns bytes.now found.0 found.1 found.2) }

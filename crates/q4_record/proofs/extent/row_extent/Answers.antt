@@ -1,5 +1,5 @@
-use Rattle.std.proofs.Common.{◌≡◌, ◌+◌, ◌||◌, drop, Bool, true, false, refl, sym, ap, subst, ◌∙◌, arith}
-use Rattle.q4_record.specs.Extents.{CutRow, IsRowExtent, IsValueExtent}
+use Rattle.std.proofs.Common.{◌≡◌, ◌+◌, ◌||◌, drop, subst, arith}
+use Rattle.q4_record.specs.Extents.{CutRow}
 use Rattle.q4_record.proofs.Extending.{RowSoFar, more_there, cut_there, ill_there}
 use Rattle.q4_record.proofs.extent.row_extent.Goals as goal
 use Rattle.q4_record.proofs.extent.row_extent.Goals.{then-long, else-long}

@@ -1,4 +1,4 @@
-use Rattle.std.proofs.Common.{refl, sym, subst, ◌∙◌}
+use Rattle.std.proofs.Common.{refl, sym, ◌∙◌}
 use Rattle.q4_record.proofs.Schemas.{no_schema, one_more_told}
 use Rattle.q4_record.proofs.schema.read_schema.Goals as goal
 

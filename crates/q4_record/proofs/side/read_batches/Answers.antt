@@ -1,4 +1,4 @@
-use Rattle.std.proofs.Common.{◌+◌, ◌-◌, length, refl, sym, ap, subst, ◌∙◌, arith}
+use Rattle.std.proofs.Common.{◌+◌, ◌-◌, length, ap, subst, arith}
 use Rattle.std.proofs.lemmas.Result.{err_from_is_err_and}
 use Rattle.q4_record.proofs.Batches.{BatchesSoFar, one_more_batch, batch_failed, batches_end}
 use Rattle.q4_record.proofs.side.read_batches.Goals as goal

@@ -1,4 +1,4 @@
-use Rattle.std.proofs.Common.{◌≡◌, refl, sym, ap, subst, ◌∙◌, arith}
+use Rattle.std.proofs.Common.{refl, arith}
 use Rattle.std.proofs.lemmas.Result.{err_from_is_err_and}
 use Rattle.q4_record.proofs.Sides.{side_read, lacks_room, batches_failed_side}
 use Rattle.q4_record.proofs.side.read_parts.Goals as goal

@@ -1,5 +1,4 @@
-use Rattle.std.proofs.Common.{refl, sym, ap, subst, inl}
-use Rattle.q4_record.specs.Extents.{IsRowExtent}
+use Rattle.std.proofs.Common.{refl, inl}
 use Rattle.q4_record.proofs.Inserting.{whole_passes, whole_short, no_row_cut, no_row_ill}
 use Rattle.q4_record.proofs.replay.Replay.long_row_fault.Goals as goal
 

@@ -1,4 +1,3 @@
-use Rattle.std.proofs.Common.{refl}
 use Rattle.std.proofs.lemmas.Result.{IfOk-weaker, IfErr-weaker}
 use Rattle.q4_record.specs.Parts.{RowStands, RowFails, RecordStood, RecordFailed}
 use Rattle.q4_record.proofs.Recording.{record_stood, record_failed}

@@ -1,4 +1,4 @@
-use Rattle.q4_record.proofs.Sections.{one_more_read, section_failed, all_read}
+use Rattle.q4_record.proofs.Sections.{one_more_read}
 use Rattle.q4_record.proofs.Recording.{ready_after}
 use Rattle.q4_record.proofs.replay.Replay.read_section.Goals as goal
 

@@ -1,6 +1,4 @@
-use Rattle.std.proofs.Common.{◌≡◌, ◌++◌, List, length}
-use Rattle.q4_record.specs.Record.{Record, records_bytes}
-use Rattle.q4_record.specs.Replay.{replays, AllStand}
+use Rattle.std.proofs.Common.{length}
 use Rattle.q4_record.specs.Parts.{IsReady}
 use Rattle.q4_record.proofs.Sections.{ReadSoFar}
 use Rattle.q4_record.proofs.replay.Replay.read_section.Given as goal

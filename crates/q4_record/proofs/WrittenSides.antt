@@ -1,0 +1,69 @@
+-- What is written of a table is a side that stands for it.
+use Rattle.std.proofs.Common.{◌≡◌, ℕ, ◌+◌, ◌^◌, ◌<◌, ◌≤◌, List, ◌∷◌, ◌++◌, length, take, drop, refl, sym, ap, subst, ◌∙◌, arith}
+use Rattle.std.proofs.lemmas.List.{take_at, drop_at, drop-drop, length-append}
+use Rattle.std.proofs.lemmas.Nat.{from_be_bytes-to_be_bytes_8}
+use Rattle.q4_table.specs.TableState.{TableState}
+use Rattle.q4_record.specs.Record.{Record}
+use Rattle.q4_record.specs.Replay.{at_batches}
+use Rattle.q4_record.specs.Side.{generation_limit, base_at, told_at, generation_of, base_length_of, base_of, behind_base, batches_bytes, after_batches, Side}
+use Rattle.q4_record.specs.Written.{side_bytes, base_bytes, base_records, written, written_table, written_length, IsWritten}
+use Rattle.q4_record.proofs.WrittenBases.{base_written}
+
+generation_told : (generation : ℕ) (base behind : List ℕ) → generation < 2 ^ 64 → generation_of (side_bytes generation base behind) ≡ generation
+unfolding told_at
+generation_told generation base behind fits = from_be_bytes-to_be_bytes_8 generation fits
+
+length_told : (generation : ℕ) (base behind : List ℕ) → length base < 2 ^ 64 → base_length_of (side_bytes generation base behind) ≡ length base
+unfolding told_at
+length_told generation base behind fits = from_be_bytes-to_be_bytes_8 (length base) fits
+
+base_told : (generation : ℕ) (base behind : List ℕ) → length base < 2 ^ 64 → base_of (side_bytes generation base behind) ≡ base
+base_told generation base behind fits = ap (λ n. take n (base ++ behind)) (length_told generation base behind fits) ∙ take_at base behind (length base) refl
+
+behind_told : (generation : ℕ) (base behind : List ℕ) → length base < 2 ^ 64 → behind_base (side_bytes generation base behind) ≡ behind
+behind_told generation base behind fits =
+    ap (λ n. drop (base_at + n) (side_bytes generation base behind)) (length_told generation base behind fits) ∙ sym (drop-drop (length base) base_at (side_bytes generation base behind)) ∙ drop_at base behind (length base) refl
+
+side_length : (generation : ℕ) (base behind : List ℕ) → length (side_bytes generation base behind) ≡ base_at + length base + length behind
+side_length generation base behind = omega (arith, length-append base behind)
+
+pub written_side : (table : TableState) (generation : ℕ) (batches : List (List Record)) (closing : ℕ) (ignored : List ℕ) → IsWritten table generation batches closing ignored
+    → Side table.columns (written table generation batches closing ignored) (written_table table batches) generation (written_length table batches)
+written_side table generation batches closing ignored w =
+    let base = base_bytes table in
+    let behind = batches_bytes batches ++ closing ∷ ignored in
+    let few = w.few in
+    let long = side_length generation base behind in
+    let rest = length-append (batches_bytes batches) (closing ∷ ignored) in
+    let fits : length base < 2 ^ 64 = omega (arith, few, long) in
+    let limit = w.limit in
+    let generation_fits : generation < 2 ^ 64 = omega (arith, limit) in
+    let told = generation_told generation base behind generation_fits in
+    let len = length_told generation base behind fits in
+    let stands = base_written table w.valid w.unowned in
+    record {
+      stands = record {
+        batches = batches;
+        replay = after_batches (at_batches table) batches;
+        closing = closing;
+        ignored = ignored;
+        reaches = record {
+          begins = record {
+            is_open = record { header = omega (arith, long); gate = refl };
+            few = few;
+            header = record { magic = refl; positive = subst (λ n. 1 ≤ n) (sym told) w.positive; within = omega (arith, len, long, rest) };
+            generation = subst (λ n. n ≤ generation_limit) (sym told) limit;
+          };
+          base_table = table;
+          base = record { records = base_records table; base_is = base_told generation base behind fits; stand = stands.stand; replay_is = stands.replay_is };
+          behind = behind_told generation base behind fits;
+          stand = w.stand;
+          replay_is = refl;
+        };
+        closed = w.closed;
+        table_is = refl;
+        generation_is = sym told;
+        len_is = ap (λ n. base_at + n + length (batches_bytes batches) + 1) (sym len);
+      };
+      room = w.room;
+    }
