@@ -1,4 +1,4 @@
-ghost use Rattle.std.specs.Prelude.{◌≡◌, Some, length, map, slice_get, Contains, IfOk, IfSome, IfNone};
+ghost use Rattle.std.specs.Prelude.{◌≡◌, ◌<◌, Some, length, map, slice_get, Contains, IfOk, IfSome, IfNone};
 ghost use Rattle.std.specs.Option.{option_copied};
 ghost use Rattle.q4_def.specs.Tables.{AreDefs, IsTableDef, names_of};
 
@@ -56,6 +56,7 @@ impl Defs {
     /// The place, counted from 0, of the table of this name, if there is one.
     pub fn find(&self, name: &str) -> Option<u32>
         ensures found { IfSome result (λ place. slice_get (names_of self.now) place ≡ Some name.now) }
+        ensures within { IfSome result (λ place. place < length self.now) }
         ensures none { IfNone result (Contains (names_of self.now) name.now → ⊥) }
         ensures well_formed { AreDefs self.now }
     {

@@ -3,7 +3,7 @@ ghost use Rattle.std.specs.List.{AllZip};
 ghost use Rattle.toml.specs.Data.{Members};
 ghost use Rattle.toml.specs.View.{view, table_view};
 ghost use Rattle.q4_value.specs.Names.{IsColumnName, AreNamed};
-ghost use Rattle.q4_def.specs.Tables.{built_in as built_in_tables, IsTableDef, AreDistinct, names_of};
+ghost use Rattle.q4_def.specs.Tables.{built_in as built_in_tables, IsTableDef, AreDistinct, AreDefs, names_of};
 ghost use Rattle.q4_def.specs.Document.{IsToml, Defines, Reads, column_text};
 ghost use Rattle.q4_def.specs.Faults.{OrMemory, PartFails, ColumnFails, FirstColumnFails, IsHead, HeadFails, TableFails, FirstTableFails, ReadFails};
 
@@ -23,7 +23,8 @@ const COLUMN_LIMIT: usize = 32;
 /// The definitions that the bytes have, read with `toml`. No byte at all is the built-in table
 /// `jobs` of the columns `prio int` and `body text`.
 pub fn read_defs(alloc: Global, bytes: &[u8]) -> Result<Defs, DefFault>
-    ensures defs { IfOk result (λ defs. Reads bytes.now defs) }
+    ensures defs { IfOk result (Reads bytes.now) }
+    ensures well_formed { IfOk result AreDefs }
     ensures cause { IfErr result (ReadFails bytes.now) }
 {
     if bytes.is_empty() {

@@ -1,5 +1,5 @@
 -- Laws of bytes that a source gave and a sink took, in parts and as a whole.
-use Rattle.std.proofs.Common.{◌≡◌, ◌≤◌, ◌<◌, ◌+◌, ◌++◌, ◌∙◌, ◌⊎◌, [], List, ℕ, Option, Some, None, Result, Ok, Err, OnOk, OnErr, length, take, drop, refl, sym, ap, append_assoc, append-nil}
+use Rattle.std.proofs.Common.{◌≡◌, ◌≤◌, ◌<◌, ◌+◌, ◌++◌, ◌∙◌, ◌⊎◌, [], List, ℕ, Option, Some, None, Result, Ok, Err, OnOk, OnErr, length, take, drop, refl, sym, ap, subst, append_assoc, append-nil}
 use Rattle.std.specs.Io.KnownBytes.{prepend_known, append_known}
 use Rattle.q4_flow.specs.Flow.{Gave, Took, IsFront, TookFront}
 
@@ -16,6 +16,10 @@ gave_nothing o = sym (prepended_nothing o)
 
 pub gave_more : (a b c : Option (List ℕ)) (xs ys : List ℕ) → Gave a b xs → Gave b c ys → Gave a c (xs ++ ys)
 gave_more a b c xs ys first second = first ∙ ap (prepend_known xs) second ∙ prepended_twice xs ys c
+
+-- nothing more, as the end of a source is told
+pub gave_end : (a b c : Option (List ℕ)) (xs : List ℕ) → Gave a b xs → Gave b c [] → Gave a c xs
+gave_end a b c xs first second = subst (Gave a c) (append-nil xs) (gave_more a b c xs [] first second)
 
 pub appended_twice : (o : Option (List ℕ)) (xs ys : List ℕ) → append_known (append_known o xs) ys ≡ append_known o (xs ++ ys)
 appended_twice None xs ys = refl

@@ -1,7 +1,9 @@
 ghost use Rattle.std.specs.Prelude.{◌≡◌, ◌≤◌, ◌^◌, ℕ, None, length, IfSome, false};
 
 use crate::{ReadFailed, Sink, Source, WriteFailed};
-use std::io::{ErrorKind, Read, Write};
+use std::io::{Error, ErrorKind, Read, Write};
+use std::rt::Files;
+use std::{fs, io};
 
 /// How many reads of a standard stream may give bytes: more than any process makes.
 const MOST_READS: u64 = 1 << 62;
@@ -69,6 +71,73 @@ impl<R: Read> Source for StdSource<R> {
         }
         self.faults = self.faults.saturating_add(1);
         Err(ReadFailed)
+    }
+}
+
+// What stands at a path, as it was opened.
+#[derive(Drop)]
+enum Opened<F: Read> {
+    File(F),
+    Missing,
+    Unreadable,
+}
+
+impl<F: Read> Read for Opened<F> {
+    fn read(&mut self, buf: &mut [u8]) -> io::Result<usize> {
+        match self {
+            Opened::File(file) => file.read(buf),
+            Opened::Missing => Ok(0),
+            Opened::Unreadable => Err(Error::from(ErrorKind::Other)),
+        }
+    }
+}
+
+// Opens the file. No signal cuts it short.
+fn open_through<R: Files>(files: &R, path: &str) -> Opened<R::File> {
+    for _ in 0..u64::MAX {
+        match fs::open(files, path) {
+            Ok(file) => return Opened::File(file),
+            Err(fault) => match fault.kind() {
+                ErrorKind::Interrupted => {}
+                ErrorKind::NotFound => return Opened::Missing,
+                _ => return Opened::Unreadable,
+            },
+        }
+    }
+    Opened::Unreadable
+}
+
+/// A source over a file. One that isn't there is an empty source, and each read of one that cannot
+/// be opened fails. It doesn't tell what is left.
+#[derive(Drop)]
+pub struct FileSource<F: Read> {
+    inner: StdSource<Opened<F>>,
+}
+
+impl<F: Read> FileSource<F> {
+    /// Opens the file at this path.
+    pub fn open<R: Files<File = F>>(files: &R, path: &str) -> FileSource<F>
+        ensures reads { result.inner.reads ≡ 2 ^ 62 }
+        ensures faults { result.inner.faults ≡ 0 }
+        ensures ended { result.inner.ended ≡ false }
+    {
+        FileSource {
+            inner: StdSource::new(open_through(files, path)),
+        }
+    }
+}
+
+impl<F: Read> Source for FileSource<F> {
+    ghost left = { λ _. None };
+
+    ghost ended = { λ s. s.inner.ended };
+
+    ghost faults = { λ s. s.inner.faults };
+
+    ghost reads = { λ s. s.inner.reads };
+
+    fn read(&mut self, into: &mut [u8]) -> Result<usize, ReadFailed> {
+        self.inner.read(into)
     }
 }
 

@@ -2,10 +2,10 @@ ghost use Rattle.std.specs.Prelude.{Some, length};
 
 use super::*;
 use std::alloc::Global;
-use std::io;
 use std::io::{Error, ErrorKind, Read};
 use std::process::Abort;
 use std::test::*;
+use std::{fs, io};
 
 // Hands on what a source in memory gives, at most so many bytes by one read.
 #[derive(Drop)]
@@ -105,6 +105,66 @@ fn long_lines(rt: HostRuntime) -> Result<(), Fail> {
     Ok(())
 }
 
+// All bytes of a source that gives so many by one read, where some reads fail.
+fn read_whole(
+    rt: &impl Abort,
+    alloc: Global,
+    bytes: &[u8],
+    failing: &[u64],
+    piece: usize,
+    most: u64,
+) -> Result<Vec<u8>, AllFault> {
+    let mut source = in_pieces(rt, alloc, bytes, failing, piece);
+    let all = read_all(alloc, &mut source, most)?;
+    match Vec::from_slice(alloc, all.as_slice()) {
+        Ok(all) => Ok(all),
+        Err(_) => Err(AllFault::Memory),
+    }
+}
+
+#[test]
+fn all_bytes(rt: HostRuntime) -> Result<(), Fail> {
+    let cases: [(&[u8], u64, Option<AllFault>); 7] = [
+        (b"", 0, None),
+        (b"a", 0, Some(AllFault::TooLong)),
+        (b"abc", 2, Some(AllFault::TooLong)),
+        (b"abc", 3, None),
+        (b"abc", 4, None),
+        (b"abc\n\0\xff", u64::MAX, None),
+        (b"abcdefg", 6, Some(AllFault::TooLong)),
+    ];
+    for (bytes, most, fault) in cases {
+        for piece in [1, 2, 3, 4096] {
+            match (read_whole(&rt, rt.alloc(), bytes, &[], piece, most), fault) {
+                (Ok(all), None) => assert_eq!(rt; all.as_slice(), bytes),
+                (Err(found), Some(fault)) => assert_eq!(rt; found, fault),
+                _ => panic!(rt; "{bytes:?} with {most}"),
+            }
+        }
+    }
+    let long = Vec::from_elem(rt.alloc(), b'x', 200_000)?;
+    let all = read_whole(&rt, rt.alloc(), &long, &[], 200_000, 200_000)
+        .ok()
+        .ok_or("long")?;
+    assert_eq!(rt; all.as_slice(), long.as_slice());
+    let fault = read_whole(&rt, rt.alloc(), &long, &[], 200_000, 199_999).err();
+    assert_eq!(rt; fault, Some(AllFault::TooLong));
+    Ok(())
+}
+
+#[test]
+fn faults_before_the_end(rt: HostRuntime) {
+    // Of reads of two bytes the third tells the end.
+    for failing in [1, 2, 3] {
+        let fault = read_whole(&rt, rt.alloc(), b"abc", &[failing], 2, 3).err();
+        assert_eq!(rt; fault, Some(AllFault::ReadFault));
+    }
+    assert!(rt; read_whole(&rt, rt.alloc(), b"abc", &[4], 2, 3).is_ok());
+    // What came is too long before a later read fails.
+    let fault = read_whole(&rt, rt.alloc(), b"abc", &[3], 2, 2).err();
+    assert_eq!(rt; fault, Some(AllFault::TooLong));
+}
+
 // One read into two bytes, which stay as they were where nothing is read.
 fn read_two<S: Source>(source: &mut S) -> (Result<usize, ReadFailed>, [u8; 2]) {
     let mut into = *b"..";
@@ -184,4 +244,27 @@ fn standard_streams(rt: HostRuntime) {
     let mut sink = StdSink::new(room.as_mut_slice());
     assert_eq!(rt; put(&mut sink, b"ab"), Ok(()));
     assert_eq!(rt; put(&mut sink, b"c"), Err(WriteFailed));
+}
+
+#[test]
+fn files(rt: HostRuntime) -> Result<(), Fail> {
+    fs::write(&rt, "letters", b"abc")?;
+    let mut source = FileSource::open(&rt, "letters");
+    assert_eq!(rt; read_two(&mut source), (Ok(2), *b"ab"));
+    assert_eq!(rt; read_two(&mut source), (Ok(1), *b"c."));
+    assert_eq!(rt; read_two(&mut source), (Ok(0), *b".."));
+    assert_eq!(rt; read_two(&mut source), (Ok(0), *b".."));
+
+    let mut source = FileSource::open(&rt, "missing");
+    assert_eq!(rt; source.read(&mut []), Ok(0));
+    assert_eq!(rt; read_two(&mut source), (Ok(0), *b".."));
+
+    // A folder opens and cannot be read, and a name with a NUL cannot be opened.
+    fs::create_dir(&rt, "folder")?;
+    for path in ["folder", "a\0b"] {
+        let mut source = FileSource::open(&rt, path);
+        assert_eq!(rt; read_two(&mut source), (Err(ReadFailed), *b".."));
+        assert_eq!(rt; read_two(&mut source), (Err(ReadFailed), *b".."));
+    }
+    Ok(())
 }
