@@ -62,5 +62,7 @@ pub(crate) fn fault_line(alloc: Global, fault: DefFault) -> Result<String, Alloc
 fn placed_line(alloc: Global, words: &str, table: u32, column: u32) -> Result<String, AllocError>
     ensures { IfOk result (λ line. string_bytes line ≡ placed_line words.now table column) }
 {
-    format!(in alloc; "definitions: {words} {table} {column}\n")
+    let mut line = format!(in alloc; "definitions: {words} {table}")?;
+    write!(line, " {column}\n")?;
+    Ok(line)
 }
