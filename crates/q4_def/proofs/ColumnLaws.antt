@@ -1,19 +1,19 @@
 -- A column's string spells one column, and strings that spell columns have no fault.
-use Rattle.std.proofs.Common.{◌≡◌, ◌≢◌, ◌==◌, ℕ, ◌+◌, ◌<◌, ◌≤◌, eqb, true, false, List, [], ◌∷◌, ◌++◌, length, get_or, take, map, Contains, codes, refl, sym, ap, subst, ◌∙◌, arith, inl, inr, ◌⊎◌, ⊎_elim, length-append}
-use Rattle.std.specs.List.{All, AllPairs, before_first, position_or_len}
-use Rattle.std.proofs.lemmas.Bool.{ne_eqb, eq-eqb, cases_order}
+use Rattle.std.proofs.Common.{◌≡◌, ◌≢◌, ◌==◌, ℕ, ◌+◌, ◌<◌, List, [], ◌∷◌, ◌++◌, length, get_or, take, map, Contains, refl, sym, ap, subst, ◌∙◌, arith, ⊎_elim, length-append}
+use Rattle.std.specs.List.{All, AllPairs, position_or_len}
+use Rattle.std.proofs.lemmas.Bool.{ne_eqb, cases_order}
 use Rattle.std.proofs.lemmas.List.{append_cancel_left, get_or_append_left, get_or-map, length-map, take_at, get_or_at}
-use Rattle.std.proofs.lemmas.List.Elements.{All-head, All-tail, All-get_or}
+use Rattle.std.proofs.lemmas.List.Elements.{All-head, All-tail}
 use Rattle.std.proofs.lemmas.List.Sums.{position_or_len_is}
 use Rattle.q4_value.specs.declared.column.Column.{Column}
 use Rattle.q4_value.specs.declared.column.Kind.{Kind}
 use Rattle.q4_value.specs.declared.column.Kind.TheVariants as kind
-use Rattle.q4_value.specs.Names.{IsNameByte, IsName, IsColumnName, AreNamed}
+use Rattle.q4_value.specs.Names.{IsNameByte, IsColumnName, AreNamed}
 use Rattle.q4_value.proofs.Rows.{append_same, place_within}
 use Rattle.q4_def.specs.declared.fault.DefFault.{DefFault}
 use Rattle.q4_def.specs.declared.fault.DefFault.TheVariants as fault
 use Rattle.q4_def.specs.Document.{kind_word, column_text}
-use Rattle.q4_def.specs.Faults.{name_part, IsRepeated, PartFails, ColumnFails, FirstColumnFails}
+use Rattle.q4_def.specs.Faults.{name_part, IsRepeated, ColumnFails, FirstColumnFails}
 
 -- ---- lists in parts
 

@@ -1,18 +1,17 @@
 -- A file has one list of definitions or one fault, and never both.
-use Rattle.std.proofs.Common.{◌≡◌, ◌≢◌, ℕ, ◌+◌, ◌<◌, ◌≤◌, List, [], ◌∷◌, ◌++◌, length, map, Some, Contains, refl, sym, ap, subst, ◌∙◌, arith, inl, inr, ◌⊎◌, ⊎_elim}
+use Rattle.std.proofs.Common.{◌≡◌, ◌≢◌, ℕ, ◌+◌, ◌<◌, List, [], ◌∷◌, ◌++◌, length, map, Some, Contains, refl, sym, ap, subst, ◌∙◌, arith, ⊎_elim}
 use Rattle.std.specs.List.{All, AllPairs, AllZip}
 use Rattle.std.proofs.lemmas.Bool.{cases_order}
 use Rattle.std.proofs.lemmas.List.{length-map}
 use Rattle.std.proofs.lemmas.List.Elements.{All-head, All-tail}
 use Rattle.toml.specs.Data.{Data, Members}
-use Rattle.toml.specs.Parse.{parse_document}
 use Rattle.q4_value.specs.declared.column.Column.{Column}
 use Rattle.q4_value.specs.Names.{IsName}
 use Rattle.q4_value.proofs.Rows.{append_same, place_within}
 use Rattle.q4_def.specs.declared.fault.DefFault.{DefFault}
 use Rattle.q4_def.specs.declared.fault.DefFault.TheVariants as fault
 use Rattle.q4_def.specs.declared.table_def.TableDef.{TableDef}
-use Rattle.q4_def.specs.Tables.{IsTableDef, AreDistinct, AreDefs, names_of}
+use Rattle.q4_def.specs.Tables.{IsTableDef, AreDistinct, names_of}
 use Rattle.q4_def.specs.Document.{IsToml, HasTables, IsTable, Defines, HasDefs, Reads, column_text}
 use Rattle.q4_def.specs.Faults.{IsHead, HeadFails, FirstColumnFails, TableFails, bad_shape, bad_head, bad_column, FirstTableFails, DocumentFails, not_toml, no_tables, too_many, bad_table, Fails}
 use Rattle.q4_def.proofs.Forms.{one_entries, one_tables, same_texts}

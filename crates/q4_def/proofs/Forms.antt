@@ -1,5 +1,5 @@
 -- What a document's members are, and that they are these alone.
-use Rattle.std.proofs.Common.{◌≡◌, ◌≢◌, ℕ, ◌<◌, Bool, true, false, cond, ◌&&◌, List, [], ◌∷◌, length, get_or, map, Option, Some, None, Contains, IsTrue, Ordering, Less, Equal, Greater, String, Global, string_bytes, nat_cmp, is_eq, codes, refl, sym, ap, subst, ◌∙◌, arith, inl, inr}
+use Rattle.std.proofs.Common.{◌≡◌, ℕ, ◌<◌, Bool, true, List, [], ◌∷◌, length, get_or, map, Option, Some, None, Contains, IsTrue, Ordering, Less, Equal, Greater, String, Global, string_bytes, nat_cmp, is_eq, codes, refl, sym, ap, subst, ◌∙◌, arith, inl, inr}
 use Rattle.std.specs.Cmp.Lexicographic.{slice_cmp}
 use Rattle.std.specs.List.{list_any, list_all}
 use Rattle.std.specs.Map.{keys_of}
@@ -10,7 +10,7 @@ use Rattle.std.proofs.lemmas.List.{get_or-map, length-map}
 use Rattle.std.proofs.lemmas.Map.Text.{is_eq-slice_cmp}
 use Rattle.std.proofs.lemmas.Slice.Eq.{bytes_eq-Decides}
 use Rattle.toml.specs.declared.value.Value.{Value}
-use Rattle.toml.specs.Data.{Data, string, array, table, as_str, as_array, as_table, Items, no_items, item, Members, no_members, member, get_member}
+use Rattle.toml.specs.Data.{Data, string, array, table, as_str, as_array, as_table, Items, Members, get_member}
 use Rattle.toml.specs.View.{view, items_of, members_view}
 use Rattle.toml.proofs.Views.{Entry}
 use Rattle.q4_def.specs.Document.{HasOnly, HasTables, HasEntries}

@@ -1,6 +1,6 @@
 -- Lists of columns and of definitions that grow one by one.
 use Rattle.std.proofs.Common.{Bor, ◌≡◌, ◌≢◌, ℕ, ◌+◌, ◌<◌, List, [], ◌∷◌, ◌++◌, length, get_or, take, drop, map, Contains, refl, sym, ap, subst, ◌∙◌, arith}
-use Rattle.std.specs.List.{All, AllPairs, AllZip, take-map}
+use Rattle.std.specs.List.{AllZip, take-map}
 use Rattle.std.proofs.lemmas.List.{get_or-map, length-map, take_more, map_push}
 use Rattle.std.proofs.lemmas.List.Elements.{All-push}
 use Rattle.std.proofs.lemmas.List.Quantifiers.{all_pairs_push}

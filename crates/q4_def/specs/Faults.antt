@@ -23,26 +23,26 @@ pub record IsRepeated (earlier : List Column) (text : List ℕ) : Type 0 where
   pub named : IsColumnName column.name
   pub repeated : Contains (map (λ c. c.name) earlier) column.name
 
--- Why the string, number j of table i, is no column: its name, else its kind.
+-- Why the string is no column, which has this place in its table: its name, else its kind.
 abbrev pub PartFails : List ℕ → ℕ → ℕ → DefFault → Type 0
-PartFails text i j (fault.BadName table column) = (table ≡ i) × (column ≡ j) × (IsColumnName (name_part text) → ⊥)
-PartFails text i j (fault.BadKind table column) = (table ≡ i) × (column ≡ j) × IsColumnName (name_part text)
+PartFails text table place (fault.BadName i j) = (i ≡ table) × (j ≡ place) × (IsColumnName (name_part text) → ⊥)
+PartFails text table place (fault.BadKind i j) = (i ≡ table) × (j ≡ place) × IsColumnName (name_part text)
     × ((kind : Kind) → text ≢ name_part text ++ 32 ∷ kind_word kind)
-PartFails text i j _ = ⊥
+PartFails text table place _ = ⊥
 
 -- Why it is none behind the earlier columns of its table: in itself, else a name that stands twice.
 abbrev pub ColumnFails : List Column → List ℕ → ℕ → ℕ → DefFault → Type 0
-ColumnFails earlier text i j (fault.Twice table column) = (table ≡ i) × (column ≡ j) × IsRepeated earlier text
-ColumnFails earlier text i j why = PartFails text i j why
+ColumnFails earlier text table place (fault.Twice i j) = (i ≡ table) × (j ≡ place) × IsRepeated earlier text
+ColumnFails earlier text table place why = PartFails text table place why
 
 -- the strings in front are columns, and the next is none
-pub record FirstColumnFails (texts : List (List ℕ)) (i : ℕ) (why : DefFault) : Type 0 where
+pub record FirstColumnFails (texts : List (List ℕ)) (table : ℕ) (why : DefFault) : Type 0 where
   pub earlier : List Column
   pub text : List ℕ
   pub rest : List (List ℕ)
   pub texts_are : texts ≡ map column_text earlier ++ text ∷ rest
   pub named : AreNamed earlier
-  pub fails : ColumnFails earlier text i (length earlier + 1) why
+  pub fails : ColumnFails earlier text table (length earlier + 1) why
 
 -- the table's name is good and new, and it has 1 to 32 columns
 pub record IsHead (names : List (List ℕ)) (name : List ℕ) (count : ℕ) : Type 0 where
@@ -53,17 +53,18 @@ pub record IsHead (names : List (List ℕ)) (name : List ℕ) (count : ℕ) : Ty
 
 -- Why the table fails before its columns are looked at: its name, else a name that an earlier table has, else the number of columns.
 abbrev pub HeadFails : List (List ℕ) → List ℕ → ℕ → ℕ → DefFault → Type 0
-HeadFails names name count i (fault.BadName table column) = (table ≡ i) × (column ≡ 0) × (IsName name → ⊥)
-HeadFails names name count i (fault.Twice table column) = (table ≡ i) × (column ≡ 0) × IsName name × Contains names name
-HeadFails names name count i (fault.Count table) = (table ≡ i) × IsName name × (Contains names name → ⊥) × ((count ≡ 0) ⊎ (32 < count))
-HeadFails names name count i _ = ⊥
+HeadFails names name count table (fault.BadName i j) = (i ≡ table) × (j ≡ 0) × (IsName name → ⊥)
+HeadFails names name count table (fault.Twice i j) = (i ≡ table) × (j ≡ 0) × IsName name × Contains names name
+HeadFails names name count table (fault.Count i) = (i ≡ table) × IsName name × (Contains names name → ⊥) × ((count ≡ 0) ⊎ (32 < count))
+HeadFails names name count table _ = ⊥
 
--- Why the member, number i, is no table behind tables of these names.
-pub data TableFails (names : List (List ℕ)) (member : Data) (i : ℕ) (why : DefFault) : Type 0 where
-  bad_shape : why ≡ fault.Shape i → ((name : List ℕ) (texts : List (List ℕ)) → IsTable member name texts → ⊥) → TableFails names member i why
-  bad_head : (name : List ℕ) (texts : List (List ℕ)) → IsTable member name texts → HeadFails names name (length texts) i why → TableFails names member i why
-  bad_column : (name : List ℕ) (texts : List (List ℕ)) → IsTable member name texts → IsHead names name (length texts) → FirstColumnFails texts i why
-      → TableFails names member i why
+-- Why the member, which has this place among the tables, is none behind tables of these names.
+pub data TableFails (names : List (List ℕ)) (member : Data) (place : ℕ) (why : DefFault) : Type 0 where
+  bad_shape : why ≡ fault.Shape place → ((name : List ℕ) (texts : List (List ℕ)) → IsTable member name texts → ⊥) → TableFails names member place why
+  bad_head : (name : List ℕ) (texts : List (List ℕ)) → IsTable member name texts → HeadFails names name (length texts) place why
+      → TableFails names member place why
+  bad_column : (name : List ℕ) (texts : List (List ℕ)) → IsTable member name texts → IsHead names name (length texts) → FirstColumnFails texts place why
+      → TableFails names member place why
 
 -- the members in front define tables, and the next fails
 pub record FirstTableFails (tables : List Data) (why : DefFault) : Type 0 where

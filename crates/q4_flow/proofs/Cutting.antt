@@ -1,5 +1,5 @@
 -- A range of a list, cut at a place.
-use Rattle.std.proofs.Common.{◌≡◌, ◌≢◌, ◌≤◌, ◌<◌, ◌+◌, ◌-◌, ◌++◌, ◌∷◌, ◌∙◌, [], List, ℕ, Option, Some, None, All, length, take, drop, min, sym, ap, subst, arith, take-take, drop-drop, drop_of_length-le, append-nil, append_assoc, length-append, take_all, slice_range}
+use Rattle.std.proofs.Common.{◌≡◌, ◌≢◌, ◌≤◌, ◌<◌, ◌+◌, ◌-◌, ◌++◌, ◌∷◌, ◌∙◌, [], List, ℕ, Option, Some, None, length, take, drop, min, sym, ap, subst, arith, take-take, drop-drop, drop_of_length-le, append-nil, append_assoc, length-append, take_all, slice_range}
 use Rattle.std.proofs.lemmas.List.{drop-take, length-take, length-drop, take-append-le, take-append-drop}
 use Rattle.std.proofs.lemmas.List.Elements.{All-append, All-take}
 use Rattle.q4_flow.specs.Lines.{NewlineAt, Appended, Cuts, Takes, Next, NextFrom, IsOneLine, IsOpenLine, line_limit}

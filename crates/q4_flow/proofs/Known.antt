@@ -1,7 +1,7 @@
 -- Laws of bytes that a source gave and a sink took, in parts and as a whole.
-use Rattle.std.proofs.Common.{◌≡◌, ◌≤◌, ◌<◌, ◌+◌, ◌++◌, ◌∙◌, ◌⊎◌, [], List, ℕ, Option, Some, None, Result, Ok, Err, OnOk, OnErr, length, take, drop, refl, sym, ap, subst, append_assoc, append-nil}
+use Rattle.std.proofs.Common.{◌≡◌, ◌++◌, ◌∙◌, [], List, ℕ, Option, Some, None, refl, sym, ap, subst, append_assoc, append-nil}
 use Rattle.std.specs.Io.KnownBytes.{prepend_known, append_known}
-use Rattle.q4_flow.specs.Flow.{Gave, Took, IsFront, TookFront}
+use Rattle.q4_flow.specs.Flow.{Gave, Took, TookFront}
 
 pub prepended_twice : (xs ys : List ℕ) (o : Option (List ℕ)) → prepend_known xs (prepend_known ys o) ≡ prepend_known (xs ++ ys) o
 prepended_twice xs ys None = refl

@@ -1,5 +1,5 @@
 -- What a source has left and what a sink was given, where these are told, and counts of faults.
-use Rattle.std.specs.Prelude.{◌≡◌, ◌≤◌, ◌<◌, ◌+◌, ◌-◌, ◌^◌, ◌++◌, ◌⊎◌, ℕ, List, [], Option, Result, min, Bool, IsTrue, IsSome, IfSome, OnOk, OnErr, IfOk, Ok}
+use Rattle.std.specs.Prelude.{◌≡◌, ◌≤◌, ◌<◌, ◌+◌, ◌-◌, ◌^◌, ◌++◌, ◌⊎◌, ℕ, List, [], Option, Result, min, Bool, IsTrue, IfSome, OnOk, OnErr, IfOk, Ok}
 use Rattle.std.specs.Io.KnownBytes.{prepend_known, append_known}
 
 -- The count is greater than before, or stands at its type's end.

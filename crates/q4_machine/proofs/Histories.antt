@@ -19,7 +19,7 @@ use Rattle.q4_machine.specs.declared.session.OpenSession.{OpenSession}
 use Rattle.q4_machine.specs.Machine.{MachineState, table_at, mode_of, in_mode, with_mode, without_session}
 use Rattle.q4_machine.specs.Pick.{Picked, pick}
 use Rattle.q4_machine.specs.Step.{step, inserted, looked, ended, closed}
-use Rattle.q4_machine.specs.History.{nothing, advance, state_after, is_open, opener, IsNext, is_change, IsSettled, SyncsAreOwed, IsLegal}
+use Rattle.q4_machine.specs.History.{nothing, advance, state_after, opens_session, opener, IsNext, is_change, IsSettled, SyncsAreOwed, IsLegal}
 
 pub cons_head : {X : Type 0} {x y : X} {xs ys : List X} → x ∷ xs ≡ y ∷ ys → x ≡ y
 cons_head {X = X} {x = x} is = ap (λ l. first_or l) is where
@@ -186,16 +186,16 @@ opener_step false k caller old new is later = later is
 -- who opened a session doesn't change
 pub opener_more : (history more : List Entry) (s caller : ℕ) → opener history s ≡ Some caller → opener (history ++ more) s ≡ Some caller
 opener_more [] more s caller is = cc is
-opener_more (e ∷ es) more s caller is = opener_step (is_open e.call && e.session == s) e.caller caller (opener es s) (opener (es ++ more) s) is (opener_more es more s caller)
+opener_more (e ∷ es) more s caller is = opener_step (opens_session e.call && e.session == s) e.caller caller (opener es s) (opener (es ++ more) s) is (opener_more es more s caller)
 
 either_zero : (b : Bool) (k : ℕ) (o : Option ℕ) → k ≡ 0 → o ≡ Some 0 → cond b (Some k) o ≡ Some 0
 either_zero true k o is_zero later = ap Some is_zero
 either_zero false k o is_zero later = later
 
 -- a session that is opened now, in a history of caller 0
-pub opener_now : (history : List Entry) (s : ℕ) (e : Entry) → All (λ (x : Entry). x.caller ≡ 0) history → e.caller ≡ 0 → is_open e.call ≡ true → e.session ≡ s → opener (history ++ e ∷ []) s ≡ Some 0
+pub opener_now : (history : List Entry) (s : ℕ) (e : Entry) → All (λ (x : Entry). x.caller ≡ 0) history → e.caller ≡ 0 → opens_session e.call ≡ true → e.session ≡ s → opener (history ++ e ∷ []) s ≡ Some 0
 opener_now [] s e by_zero caller opens is =
-    let test : (is_open e.call && e.session == s) ≡ true = and_from (is_open e.call) (e.session == s) opens (eq-eqb e.session s is) in
+    let test : (opens_session e.call && e.session == s) ≡ true = and_from (opens_session e.call) (e.session == s) opens (eq-eqb e.session s is) in
     ap (λ (b : Bool). cond b (Some e.caller) None) test ∙ ap Some caller
 opener_now (x ∷ xs) s e by_zero caller opens is =
-    either_zero (is_open x.call && x.session == s) x.caller (opener (xs ++ e ∷ []) s) (All-head (λ (y : Entry). y.caller ≡ 0) x xs by_zero) (opener_now xs s e (All-tail (λ (y : Entry). y.caller ≡ 0) x xs by_zero) caller opens is)
+    either_zero (opens_session x.call && x.session == s) x.caller (opener (xs ++ e ∷ []) s) (All-head (λ (y : Entry). y.caller ≡ 0) x xs by_zero) (opener_now xs s e (All-tail (λ (y : Entry). y.caller ≡ 0) x xs by_zero) caller opens is)

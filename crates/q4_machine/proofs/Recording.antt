@@ -19,7 +19,7 @@ use Rattle.q4_machine.specs.Machine.{MachineState, mode_of, table_at}
 use Rattle.q4_machine.specs.Pick.{Picked, pick}
 use Rattle.q4_machine.specs.Step.{step, MayStep, inserted, looked, ended}
 use Rattle.q4_machine.specs.Valid.{IsValid}
-use Rattle.q4_machine.specs.History.{state_after, definitions_of, is_open, opener, IsOpenFor, IsLegal}
+use Rattle.q4_machine.specs.History.{state_after, definitions_of, opens_session, opener, IsOpenFor, IsLegal}
 use Rattle.q4_machine.specs.Recorded.{entry, IsRecorded}
 use Rattle.q4_machine.proofs.Defined.{step_defined}
 use Rattle.q4_machine.proofs.Reached.{valid_reached}
@@ -36,7 +36,7 @@ defined_push history e legal = ap (λ h. definitions_of (h ++ e ∷ [])) legal.w
 -- ## One more entry
 
 pub recorded_push : (m m' : MachineState) (history : List Entry) (s : ℕ) (call : Call) (reply : Reply) → IsRecorded m history → step m s call ≡ (m', reply) → MayStep (state_after history) s call
-    → (is_open call ≡ false → opener history s ≡ Some 0) → length history + 1 < 2 ^ 61 → IsRecorded m' (history ++ entry s call reply ∷ [])
+    → (opens_session call ≡ false → opener history s ≡ Some 0) → length history + 1 < 2 ^ 61 → IsRecorded m' (history ++ entry s call reply ∷ [])
 recorded_push m m' history s call reply recorded steps may opened few =
     let e = entry s call reply in
     let here : step (state_after history) s call ≡ (m', reply) = subst (λ (x : MachineState). step x s call ≡ (m', reply)) recorded.reached steps in

@@ -25,19 +25,20 @@ advance m e = (step m e.session e.call).0
 abbrev pub state_after : List Entry → MachineState
 state_after history = fold advance nothing history
 
-abbrev pub is_open : Call → Bool
-is_open (Opened tables) = false
-is_open Open = true
-is_open (Insert place row) = false
-is_open (Look list) = false
-is_open End = false
-is_open Close = false
-is_open Sync = false
+-- the call opens a session
+abbrev pub opens_session : Call → Bool
+opens_session (Opened tables) = false
+opens_session Open = true
+opens_session (Insert place row) = false
+opens_session (Look list) = false
+opens_session End = false
+opens_session Close = false
+opens_session Sync = false
 
 -- the caller of the entry that opened a session
 abbrev pub opener : List Entry → ℕ → Option ℕ
 opener [] session = None
-opener (e ∷ es) session = if is_open e.call && e.session == session then Some e.caller else opener es session
+opener (e ∷ es) session = if opens_session e.call && e.session == session then Some e.caller else opener es session
 
 -- The session is open, and this caller opened it.
 pub record IsOpenFor (before : List Entry) (caller session : ℕ) : Type 0 where
@@ -47,7 +48,7 @@ pub record IsOpenFor (before : List Entry) (caller session : ℕ) : Type 0 where
 -- An entry that may come next: the call's needs are met, the session is the caller's, and the reply is the step's.
 pub record IsNext (before : List Entry) (e : Entry) : Type 0 where
   pub may : MayStep (state_after before) e.session e.call
-  pub caller : is_open e.call ≡ false → opener before e.session ≡ Some e.caller
+  pub caller : opens_session e.call ≡ false → opener before e.session ≡ Some e.caller
   pub reply : e.reply ≡ (step (state_after before) e.session e.call).1
 
 -- Nobody owns a row.

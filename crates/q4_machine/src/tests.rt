@@ -1,197 +1,396 @@
-ghost use Rattle.std.specs.Prelude.{◌≡◌, [], ◌∷◌, None};
-ghost use Rattle.q4_machine.specs.Fits.{RowFits};
+ghost use Rattle.std.specs.Prelude.{◌≡◌, ◌<◌, ◌≤◌, [], None, All, length, IsSome};
+ghost use Rattle.q4_def.specs.Tables.{AreDefs};
+ghost use Rattle.q4_table.specs.Valid.{IsValidTable};
+ghost use Rattle.q4_machine.specs.Definitions.{columns_at, definitions, IsRowFor, IsListed};
+ghost use Rattle.q4_machine.specs.History.{definitions_of};
+ghost use Rattle.q4_machine.specs.Machine.{IsSessionOpen};
 
 use crate::recorded::RecordedMachine;
 use crate::*;
-use q4_value::{Row, Value, Words};
+use q4_cond::read;
+use q4_def::{Defs, read_defs};
+use q4_table::{AddFault, Added, Check, Table, tables_are_valid};
+use q4_value::{Column, Row, Value, Words, fits};
 use std::alloc::Global;
 use std::process::Abort;
 use std::test::*;
 
-// A row of the built-in table.
-fn job(rt: &impl Abort, alloc: Global, priority: i64, body: &str) -> Row
-    ensures { RowFits result }
+// The columns of the two tables have the same names, in another order.
+const TWO_TABLES: &[u8] = b"[[table]]\nname = \"jobs\"\ncolumns = [\"prio int\", \"body text\"]\n\n[[table]]\nname = \"hot\"\ncolumns = [\"body text\", \"prio int\"]\n";
+
+const SIXTEEN_TEXTS: &[u8] = b"[[table]]\nname = \"texts\"\ncolumns = [\"a text\", \"b text\", \"c text\", \"d text\", \"e text\", \"f text\", \"g text\", \"h text\", \"i text\", \"j text\", \"k text\", \"l text\", \"m text\", \"n text\", \"o text\", \"p text\"]\n";
+
+fn defs_of(rt: &impl Abort, alloc: Global, text: &[u8]) -> Defs {
+    read_defs(alloc, text).expect(rt, "definitions")
+}
+
+// The columns of the table at this place, which has to be there.
+fn columns_of<'a>(rt: &impl Abort, defs: &'a Defs, place: u32) -> &'a [Column]
+    ensures inside { place < length defs.now }
+    ensures columns { result.now ≡ columns_at defs.now place }
+    ensures few { length result.now ≤ 32 }
 {
-    assert!(rt; body.len() <= 65_535);
-    let words = Words::new(alloc, body).expect(rt, "memory");
+    match defs.table(place) {
+        Some(def) => def.columns.as_slice(),
+        None => panic!(rt; "no such table"),
+    }
+}
+
+#[derive(Clone, Copy)]
+enum Cell {
+    Number(i64),
+    Text(&'static str),
+}
+use Cell::{Number, Text};
+
+fn row_of(rt: &impl Abort, alloc: Global, cells: &[Cell]) -> Row {
     let mut row = Row::new(alloc);
-    assert!(rt; row.push(Value::Int(priority)).is_ok());
-    assert!(rt; row.push(Value::Word(words)).is_ok());
+    for cell in cells {
+        let value = match cell {
+            Number(number) => Value::Int(*number),
+            Text(text) => Value::Word(Words::new(alloc, text).expect(rt, "memory")),
+        };
+        assert!(rt; row.push(value).is_ok());
+    }
     row
 }
 
-// The list of the built-in table alone.
-fn jobs(rt: &impl Abort, alloc: Global) -> Looks
-    ensures { result ≡ 0 ∷ [] }
+// The row, which has to be one for the table at this place.
+fn row_for(rt: &impl Abort, defs: &Defs, place: u32, row: Row) -> Row
+    ensures { IsRowFor defs.now place result }
+{
+    match fits(columns_of(rt, defs, place), &row) {
+        Ok(()) => row,
+        Err(_) => panic!(rt; "the row does not fit"),
+    }
+}
+
+// Puts an entry at the end of the list of a wait.
+fn list_table(rt: &impl Abort, alloc: Global, defs: &Defs, list: &mut Looks, table: u32, text: &str)
+    requires { All (IsListed defs.now) list.old }
+    ensures { All (IsListed defs.now) list.new }
+{
+    match read(alloc, text, columns_of(rt, defs, table)) {
+        Ok(cond) => assert!(rt; list.push(table, cond).is_ok()),
+        Err(_) => panic!(rt; "no condition"),
+    }
+}
+
+// The list of a wait: places of tables, from 0, and conditions.
+fn list_of(rt: &impl Abort, alloc: Global, defs: &Defs, entries: &[(u32, &str)]) -> Looks
+    ensures { All (IsListed defs.now) result }
 {
     let mut list = Looks::new(alloc);
-    assert!(rt; list.push(0).is_ok());
+    for (table, text) in entries {
+        list_table(rt, alloc, defs, &mut list, *table, text);
+    }
     list
 }
 
-// Two rows are added, the first is ended, and the second is owned at the close.
-fn first_session<K: Desk>(rt: &impl Abort, alloc: Global, desk: &mut K)
+// What a session asks of a desk.
+#[derive(Clone, Copy)]
+enum Ask {
+    // The place of the table, from 0, and the row.
+    Insert(u32, &'static [Cell]),
+    Wait(&'static [(u32, &'static str)]),
+    End,
+}
+use Ask::{End, Insert, Wait};
+
+fn insert<K: Desk>(rt: &impl Abort, desk: &mut K, place: u32, row: Row) -> Reply
+    requires { IsSome (K.current desk.old) }
+    ensures { K.current desk.new ≡ K.current desk.old }
+{
+    let row = row_for(rt, desk.defs(), place, row);
+    match desk.insert(place, row) {
+        Ok(Added::New(number)) => Reply::Added(number),
+        Ok(Added::Seen(mark)) => Reply::Seen(mark),
+        Err(InsertFault::Spent) => Reply::Refused(Refusal::Spent),
+        Err(InsertFault::Rows) => Reply::Refused(Refusal::Rows),
+        Err(InsertFault::Bytes(sum)) => Reply::Refused(Refusal::Bytes(sum)),
+        Err(InsertFault::Desk(_)) => panic!(rt; "memory"),
+    }
+}
+
+fn wait<K: Desk>(rt: &impl Abort, alloc: Global, desk: &mut K, entries: &[(u32, &str)]) -> Reply
+    requires { IsSome (K.current desk.old) }
+    ensures { K.current desk.new ≡ K.current desk.old }
+{
+    let list = list_of(rt, alloc, desk.defs(), entries);
+    match desk.wait(&list) {
+        Ok(Some(place)) => Reply::Found(place),
+        Ok(None) => Reply::Nothing,
+        Err(_) => panic!(rt; "memory"),
+    }
+}
+
+fn end<K: Desk>(rt: &impl Abort, desk: &mut K) -> Reply
+    requires { IsSome (K.current desk.old) }
+    ensures { K.current desk.new ≡ K.current desk.old }
+{
+    match desk.end() {
+        Ok(()) => Reply::Done,
+        Err(ModeFault::NotOwner) => Reply::Refused(Refusal::NotOwner),
+        Err(ModeFault::Desk(_)) => panic!(rt; "memory"),
+    }
+}
+
+fn asked<K: Desk>(rt: &impl Abort, alloc: Global, desk: &mut K, ask: Ask) -> Reply
+    requires { IsSome (K.current desk.old) }
+    ensures { K.current desk.new ≡ K.current desk.old }
+{
+    match ask {
+        Insert(place, cells) => insert(rt, desk, place, row_of(rt, alloc, cells)),
+        Wait(entries) => wait(rt, alloc, desk, entries),
+        End => end(rt, desk),
+    }
+}
+
+// A whole session of this number: what it asks, and what it has to be answered.
+fn session<K: Desk>(
+    rt: &impl Abort,
+    alloc: Global,
+    desk: &mut K,
+    number: u64,
+    asks: &[(Ask, Reply)],
+)
     requires { K.current desk.old ≡ None }
     ensures { K.current desk.new ≡ None }
 {
-    let list = jobs(rt, alloc);
     match desk.open() {
-        Ok(session) => assert_eq!(rt; session, 1),
+        Ok(session) => assert_eq!(rt; session, number),
         Err(_) => panic!(rt; "no session"),
     }
-    assert_eq!(rt; desk.insert(0, job(rt, alloc, 7, "a")), Ok(Added::New(1)));
-    assert_eq!(rt; desk.insert(0, job(rt, alloc, -1, "")), Ok(Added::New(2)));
-    assert_eq!(rt; desk.end(), Err(ModeFault::NotOwner));
-    assert_eq!(rt; desk.wait(&list), Ok(Some(1)));
-    assert_eq!(rt; desk.end(), Ok(()));
-    assert_eq!(rt; desk.wait(&list), Ok(Some(1)));
+    for (ask, wanted) in asks {
+        assert_eq!(rt; asked(rt, alloc, desk, *ask), *wanted);
+    }
     desk.close();
 }
+
+// The call, and the place of its table or the length of its list.
+fn call_of(entry: &Entry) -> (&'static str, u64) {
+    match &entry.call {
+        Call::Opened(tables) => ("opened", tables.len() as u64),
+        Call::Open => ("open", 0),
+        Call::Insert(place, _) => ("insert", u64::from(*place)),
+        Call::Look(list) => ("look", list.as_slice().len() as u64),
+        Call::End => ("end", 0),
+        Call::Close => ("close", 0),
+        Call::Sync => ("sync", 0),
+    }
+}
+
+const NOT_OWNER: Reply = Reply::Refused(Refusal::NotOwner);
+
+// Two rows are added, the first is ended, and the second is owned at the close.
+const FIRST: [(Ask, Reply); 6] = [
+    (Insert(0, &[Number(7), Text("a")]), Reply::Added(1)),
+    (Insert(0, &[Number(-1), Text("")]), Reply::Added(2)),
+    (End, NOT_OWNER),
+    (Wait(&[(0, "")]), Reply::Found(1)),
+    (End, Reply::Done),
+    (Wait(&[(0, "")]), Reply::Found(1)),
+];
 
 // The row of the session before is taken again, and there is no other.
-fn second_session<K: Desk>(rt: &impl Abort, alloc: Global, desk: &mut K)
-    requires { K.current desk.old ≡ None }
-    ensures { K.current desk.new ≡ None }
-{
-    let list = jobs(rt, alloc);
-    match desk.open() {
-        Ok(session) => assert_eq!(rt; session, 2),
-        Err(_) => panic!(rt; "no session"),
-    }
-    assert_eq!(rt; desk.wait(&list), Ok(Some(1)));
-    assert_eq!(rt; desk.wait(&list), Ok(None));
-    assert_eq!(rt; desk.wait(&list), Ok(None));
-    assert_eq!(rt; desk.insert(0, job(rt, alloc, 0, "b")), Ok(Added::New(3)));
-    assert_eq!(rt; desk.end(), Ok(()));
-    assert_eq!(rt; desk.end(), Err(ModeFault::NotOwner));
-    desk.close();
-}
+const SECOND: [(Ask, Reply); 6] = [
+    (Wait(&[(0, "prio<0")]), Reply::Found(1)),
+    (Wait(&[(0, "")]), Reply::Nothing),
+    (Wait(&[(0, "")]), Reply::Nothing),
+    (Insert(0, &[Number(0), Text("b")]), Reply::Added(3)),
+    (End, Reply::Done),
+    (End, NOT_OWNER),
+];
 
-// The call, and what the reply tells.
-fn words_of(entry: &Entry) -> (&'static str, u64) {
-    let call = match &entry.call {
-        Call::Opened(_) => "opened",
-        Call::Open => "open",
-        Call::Insert(_, _) => "insert",
-        Call::Look(_) => "look",
-        Call::End => "end",
-        Call::Close => "close",
-        Call::Sync => "sync",
-    };
-    let told = match entry.reply {
-        Reply::Done => 0,
-        Reply::Session(session) => session,
-        Reply::Added(number) => number,
-        Reply::Found(place) => u64::from(place),
-        Reply::Nothing => 10,
-        Reply::Refused(Refusal::NotOwner) => 11,
-    };
-    (call, told)
-}
-
-const HISTORY: [(u64, &str, u64); 24] = [
-    (0, "opened", 0),
-    (1, "open", 1),
-    (1, "insert", 1),
-    (1, "sync", 0),
-    (1, "insert", 2),
-    (1, "sync", 0),
-    (1, "end", 11),
-    (1, "look", 1),
-    (1, "end", 0),
-    (1, "sync", 0),
-    (1, "look", 1),
-    (1, "close", 0),
-    (2, "open", 2),
-    (2, "look", 1),
-    (2, "end", 0),
-    (2, "look", 10),
-    (2, "sync", 0),
-    (2, "end", 0),
-    (2, "look", 10),
-    (2, "insert", 3),
-    (2, "sync", 0),
-    (2, "end", 0),
-    (2, "end", 11),
-    (2, "close", 0),
+// The session, the call and the reply of each entry.
+const HISTORY: [(u64, &str, u64, Reply); 24] = [
+    (0, "opened", 1, Reply::Done),
+    (1, "open", 0, Reply::Session(1)),
+    (1, "insert", 0, Reply::Added(1)),
+    (1, "sync", 0, Reply::Done),
+    (1, "insert", 0, Reply::Added(2)),
+    (1, "sync", 0, Reply::Done),
+    (1, "end", 0, NOT_OWNER),
+    (1, "look", 1, Reply::Found(1)),
+    (1, "end", 0, Reply::Done),
+    (1, "sync", 0, Reply::Done),
+    (1, "look", 1, Reply::Found(1)),
+    (1, "close", 0, Reply::Done),
+    (2, "open", 0, Reply::Session(2)),
+    (2, "look", 1, Reply::Found(1)),
+    (2, "end", 0, Reply::Done),
+    (2, "look", 1, Reply::Nothing),
+    (2, "sync", 0, Reply::Done),
+    (2, "end", 0, Reply::Done),
+    (2, "look", 1, Reply::Nothing),
+    (2, "insert", 0, Reply::Added(3)),
+    (2, "sync", 0, Reply::Done),
+    (2, "end", 0, Reply::Done),
+    (2, "end", 0, NOT_OWNER),
+    (2, "close", 0, Reply::Done),
 ];
 
 #[test]
 fn two_sessions(rt: HostRuntime) {
-    let mut desk = OneDesk::new(rt.alloc()).expect(&rt, "memory");
-    first_session(&rt, rt.alloc(), &mut desk);
-    second_session(&rt, rt.alloc(), &mut desk);
+    let alloc = rt.alloc();
+    let mut desk = OneDesk::new(alloc, defs_of(&rt, alloc, b"")).expect(&rt, "memory");
+    session(&rt, alloc, &mut desk, 1, &FIRST);
+    session(&rt, alloc, &mut desk, 2, &SECOND);
+    reached_machines_are_valid(desk.history());
+    looks_take_the_oldest(desk.history());
     assert_eq!(rt; desk.history().len(), HISTORY.len());
-    for (entry, (session, call, told)) in desk.history().iter().zip(&HISTORY) {
-        assert_eq!(rt; words_of(entry), (*call, *told));
-        assert_eq!(rt; entry.session, *session);
-        assert_eq!(rt; entry.caller, 0);
+    for (entry, (session, call, number, reply)) in desk.history().iter().zip(&HISTORY) {
+        assert_eq!(rt; call_of(entry), (*call, *number));
+        assert_eq!(rt; entry.reply, *reply);
+        assert_eq!(rt; (entry.caller, entry.session), (0, *session));
     }
 }
 
-// A session looks, tells the row that it owns, and closes.
-fn owned_then_closed(rt: &impl Abort, alloc: Global, machine: &mut RecordedMachine) -> SessionMode {
-    assert!(rt; machine.reserve(1).is_ok());
-    let session = machine.open().expect(rt, "memory");
-    assert!(rt; machine.mode(session) == SessionMode::NonOwner);
-    assert!(rt; machine.reserve(1).is_ok());
-    let _ = machine.look(session, jobs(rt, alloc));
-    let mode = machine.mode(session);
-    assert!(rt; machine.reserve(1).is_ok());
-    machine.close(session);
-    mode
-}
-
-fn added(rt: &impl Abort, alloc: Global, machine: &mut RecordedMachine) {
-    assert!(rt; machine.reserve(1).is_ok());
-    let session = machine.open().expect(rt, "memory");
-    assert!(rt; machine.reserve(1).is_ok());
-    let row = job(rt, alloc, 7, "a");
-    let copy = row.copy(alloc).expect(rt, "memory");
-    assert_eq!(rt; machine.insert(session, 0, row, copy), Ok(Added::New(1)));
-}
-
-// The row is given back at the close, and keeps its number.
-#[test]
-fn owned_at_close(rt: HostRuntime) {
-    let mut machine = RecordedMachine::new(rt.alloc()).expect(&rt, "memory");
-    assert_eq!(rt;
-        owned_then_closed(&rt, rt.alloc(), &mut machine),
-        SessionMode::Empty
-    );
-    added(&rt, rt.alloc(), &mut machine);
-    for _ in 0..2 {
-        let mode = owned_then_closed(&rt, rt.alloc(), &mut machine);
-        assert_eq!(rt; mode, SessionMode::Owner(0, 1));
-    }
-}
+// Which row each wait took shows in what is left for the later ones.
+const WAITS: [(Ask, Reply); 16] = [
+    (Insert(0, &[Number(1), Text("a")]), Reply::Added(1)),
+    (Insert(0, &[Number(9), Text("b")]), Reply::Added(2)),
+    (Insert(0, &[Number(5), Text("c")]), Reply::Added(3)),
+    (Insert(1, &[Text("x"), Number(4)]), Reply::Added(1)),
+    // Row 2 of `jobs`, the oldest that any entry's condition is met by.
+    (
+        Wait(&[(0, "prio>9"), (1, "prio>=5"), (0, "prio>=5")]),
+        Reply::Found(3),
+    ),
+    (End, Reply::Done),
+    // Row 3 of `jobs`, and no longer row 2.
+    (Wait(&[(0, "prio>=5")]), Reply::Found(1)),
+    // Row 1 of `hot`, though the row of `jobs` is older.
+    (Wait(&[(1, ""), (0, "")]), Reply::Found(1)),
+    (Wait(&[(1, ""), (0, "prio>=5"), (0, "body='a'")]), Reply::Found(3)),
+    (Insert(0, &[Number(7), Text("d")]), Reply::Added(4)),
+    (Wait(&[(0, "prio<7"), (1, "")]), Reply::Nothing),
+    (Wait(&[(0, "prio<7"), (0, "prio<8")]), Reply::Found(2)),
+    (Insert(1, &[Text("y"), Number(0)]), Reply::Added(2)),
+    (Wait(&[(0, ""), (1, "prio<1")]), Reply::Found(2)),
+    (Wait(&[]), Reply::Nothing),
+    (Wait(&[(0, ""), (1, "")]), Reply::Nothing),
+];
 
 #[test]
-fn a_table(rt: HostRuntime) {
-    let mut table = Table::new(rt.alloc());
-    assert_eq!(rt; table.oldest(), None);
-    for number in 1..4 {
-        assert_eq!(rt; table.add(Row::new(rt.alloc())), Ok(Added::New(number)));
-    }
-    assert_eq!(rt; table.oldest(), Some(1));
-    table.own(1, 5);
-    assert_eq!(rt; table.oldest(), Some(2));
-    table.own(2, 6);
-    assert_eq!(rt; table.oldest(), Some(3));
-    table.release(1);
-    assert_eq!(rt; table.oldest(), Some(1));
-    table.end(1);
-    assert_eq!(rt; table.oldest(), Some(3));
-    table.end(3);
-    assert_eq!(rt; table.oldest(), None);
-    assert_eq!(rt; table.add(Row::new(rt.alloc())), Ok(Added::New(4)));
-}
-
-#[test]
-fn sessions_are_numbered(rt: HostRuntime) {
-    let Ok(mut machine) = Machine::new(rt.alloc(), Tables::new(rt.alloc())) else {
-        panic!(rt; "no machine")
+fn waits_over_two_tables(rt: HostRuntime) {
+    let alloc = rt.alloc();
+    let mut desk = OneDesk::new(alloc, defs_of(&rt, alloc, TWO_TABLES)).expect(&rt, "memory");
+    session(&rt, alloc, &mut desk, 1, &WAITS);
+    assert_eq!(rt; desk.defs().find("hot"), Some(1));
+    let Some(Call::Opened(tables)) = desk.history().first().map(|entry| &entry.call) else {
+        panic!(&rt; "no tables");
     };
-    assert_eq!(rt; machine.open(), Ok(1));
-    assert_eq!(rt; machine.open(), Ok(2));
+    for (place, name) in ["jobs", "hot"].iter().enumerate() {
+        match tables.at(place) {
+            Some(opening) => assert_eq!(rt; opening.name.as_str(), *name),
+            None => panic!(&rt; "no table"),
+        }
+    }
+    assert_eq!(rt; tables.len(), 2);
+}
+
+const LETTERS: [u8; 65_535] = [b'x'; 65_535];
+
+// A row of sixteen texts, of 1,048,576 bytes in all.
+fn longest_row(rt: &impl Abort, alloc: Global) -> Row {
+    let mut row = Row::new(alloc);
+    for place in 0..16 {
+        let len = if place < 15 { 65_535 } else { 65_487 };
+        match std::str::from_utf8(&LETTERS[..len]) {
+            Ok(text) => {
+                let words = Words::new(alloc, text).expect(rt, "memory");
+                assert!(rt; row.push(Value::Word(words)).is_ok());
+            }
+            Err(_) => panic!(rt; "no text"),
+        }
+    }
+    row
+}
+
+// 32 rows of 1,048,576 bytes are added, and then not even the smallest row. It has 16 empty texts of 4 bytes.
+fn fill<K: Desk>(rt: &impl Abort, alloc: Global, desk: &mut K)
+    requires { K.current desk.old ≡ None }
+    ensures { K.current desk.new ≡ None }
+{
+    assert!(rt; desk.open().is_ok());
+    for number in 1..33 {
+        assert_eq!(rt; insert(rt, desk, 0, longest_row(rt, alloc)), Reply::Added(number));
+    }
+    let refused = Reply::Refused(Refusal::Bytes(33_554_432));
+    assert_eq!(rt; insert(rt, desk, 0, row_of(rt, alloc, &[Text(""); 16])), refused);
+    assert_eq!(rt; wait(rt, alloc, desk, &[(0, "")]), Reply::Found(1));
+    assert_eq!(rt; end(rt, desk), Reply::Done);
+    assert_eq!(rt; insert(rt, desk, 0, longest_row(rt, alloc)), Reply::Added(33));
+    desk.close();
+}
+
+#[test]
+fn a_full_table_refuses(rt: HostRuntime) {
+    let alloc = rt.alloc();
+    let mut desk = OneDesk::new(alloc, defs_of(&rt, alloc, SIXTEEN_TEXTS)).expect(&rt, "memory");
+    fill(&rt, alloc, &mut desk);
+    // Behind the opening, and 32 inserts with their syncs. The refusal needs no sync.
+    let wanted = [
+        ("insert", Reply::Refused(Refusal::Bytes(33_554_432))),
+        ("look", Reply::Found(1)),
+        ("end", Reply::Done),
+        ("sync", Reply::Done),
+        ("insert", Reply::Added(33)),
+        ("sync", Reply::Done),
+        ("close", Reply::Done),
+    ];
+    assert_eq!(rt; desk.history().len(), 66 + wanted.len());
+    for (entry, (call, reply)) in desk.history().iter().skip(66).zip(&wanted) {
+        assert_eq!(rt; call_of(entry).0, *call);
+        assert_eq!(rt; entry.reply, *reply);
+    }
+}
+
+// The table of this definition without a row, whose next row gets this number.
+fn opening(rt: &impl Abort, alloc: Global, defs: &Defs, place: u32, next: u64) -> Opening
+    ensures valid { IsValidTable result.table }
+    ensures empty { result.table.rows ≡ [] }
+{
+    assert!(rt; next >= 1 && next <= 1 << 62);
+    let Some(def) = defs.table(place) else {
+        panic!(rt; "no such table");
+    };
+    let def = def.copy(alloc).expect(rt, "memory");
+    let mut table = Table::new(alloc, def.columns);
+    table.set_next(next);
+    tables_are_valid(&table);
+    Opening {
+        name: def.name,
+        table,
+    }
+}
+
+// A machine of two tables. The second has no number left for a row.
+fn half_spent(rt: &impl Abort, alloc: Global, defs: &Defs) -> Machine {
+    let mut tables = Tables::new(alloc);
+    assert!(rt; tables.push(opening(rt, alloc, defs, 0, 1)).is_ok());
+    assert!(rt; tables.push(opening(rt, alloc, defs, 1, 1 << 62)).is_ok());
+    match Machine::new(alloc, tables) {
+        Ok(machine) => machine,
+        Err(_) => panic!(rt; "memory"),
+    }
+}
+
+fn open(rt: &impl Abort, machine: &mut Machine) -> u64
+    ensures opened { IsSessionOpen machine.new result }
+    ensures defined { definitions machine.new.tables ≡ definitions machine.old.tables }
+{
+    machine.open().expect(rt, "memory")
+}
+
+// The row, which has to be one for the table at this place.
+fn row_in(rt: &impl Abort, machine: &Machine, place: u32, row: Row) -> Row
+    ensures { IsRowFor (definitions machine.now.tables) place result }
+{
+    let table = machine.table(place);
+    match fits(table.columns(), &row) {
+        Ok(()) => row,
+        Err(_) => panic!(rt; "the row does not fit"),
+    }
 }

@@ -1,1 +1,5 @@
-pub mod Exact
+pub mod Splitting
+pub mod Values
+pub mod Named
+pub mod Refusing
+pub mod Waiting

@@ -1,17 +1,18 @@
-ghost use Rattle.std.specs.Prelude.{◌≡◌, ◌↔◌, ◌++◌, ◌∷◌, [], codes, IfOk, IfErr, Contains, IsTrue};
-ghost use Rattle.q4_value.specs.declared.row.Value.TheVariants.{Int, Word};
-ghost use Rattle.q4_proto.specs.Commands.{Reads, ReadsRow, ReadsBody, Refuses, insert_front, first_field, command_words};
+ghost use Rattle.std.specs.Prelude.{◌<◌, ◌^◌, List, length};
+ghost use Rattle.q4_def.specs.declared.table_def.TableDef.{TableDef};
+ghost use Rattle.q4_flow.specs.Lines.{line_limit};
+ghost use Rattle.q4_proto.specs.declared.keyword.Keyword.TheVariants as word;
+ghost use Rattle.q4_proto.specs.Commands.{Reads, ReadsFields};
 
-use memchr::{memchr, memchr3};
+use crate::fields::{Fields, split_line};
+use crate::insert::read_insert;
+use crate::keyword::{Keyword, keyword_of};
+use crate::wait::read_wait;
+use q4_cond::CondFault;
+use q4_def::Defs;
 use q4_machine::Looks;
-use q4_value::{NoMemory, Row, Value, Words, parse_signed};
+use q4_value::{NoMemory, Row};
 use std::alloc::Global;
-
-/// A text has at most so many bytes.
-const TEXT_LIMIT: usize = 65_535;
-
-/// The built-in table.
-const BUILT_IN_TABLE: u32 = 0;
 
 /// A command that a line spells. Tables go by their places, from 0.
 #[derive(Drop)]
@@ -22,160 +23,96 @@ pub enum Command {
     Quit,
 }
 
-/// Why a line spells no command.
+/// Why a line spells no command: the first check that it does not pass, in the order of this list. Fields are counted
+/// from 1 behind the command's word, so are the entries of a wait, and columns are counted from 1.
 #[derive(Clone, Copy, Debug, PartialEq, Eq)]
 pub enum CommandFault {
-    /// The bytes before the first TAB are no command word.
+    /// The line is not UTF-8.
+    NotText,
+    /// Its first field is no command's word.
     Unknown,
-    /// They are one, and the line is none of those that are taken so far.
+    /// The command, or this form of it, is not built.
     NotBuilt,
+    /// The command has too few or too many fields.
+    Fields,
+    /// This field is the escaped spelling of no text.
+    Escape(u32),
+    /// This field names no table.
+    NoTable(u32),
+    /// The condition of this entry is refused.
+    Cond(u32, CondFault),
+    /// There are more or fewer values than columns, which is told.
+    Count(u32),
+    /// The value of this column is no canonical number of 64 bits, or a text over 65,535 bytes.
+    Value(u32),
+    /// The row's size exceeds 1,048,576 bytes.
+    Long,
     Memory,
 }
 
-/// Reads one line, without its newline.
-pub fn read_command(alloc: Global, line: &[u8]) -> Result<Command, CommandFault>
-    ensures { Reads line.now result }
-{
-    if let Some(fields) = line.strip_prefix(b"insert\tjobs\t".as_slice()) {
-        return read_insert(alloc, line, fields);
-    }
-    if is_word(line, b"wait\tjobs") {
-        return read_wait(alloc);
-    }
-    if is_word(line, b"end") {
-        return Ok(Command::End);
-    }
-    if is_word(line, b"quit") {
-        return Ok(Command::Quit);
-    }
-    Err(refuse(line))
-}
+impl From<NoMemory> for CommandFault {
+    ghost use Rattle.std.specs.Prelude.{◌≡◌};
+    ghost use Rattle.q4_proto.specs.declared.command.CommandFault.TheVariants.{Memory};
 
-// An insert into the built-in table, of which these fields are the row.
-fn read_insert(alloc: Global, line: &[u8], fields: &[u8]) -> Result<Command, CommandFault>
-    requires { line.now ≡ insert_front ++ fields.now }
-    ensures { Reads line.now result }
-{
-    match read_row(alloc, fields) {
-        Ok(row) => Ok(Command::Insert(BUILT_IN_TABLE, row)),
-        Err(fault) => Err(fault),
+    ghost from_gives = { λ _ fault. fault ≡ Memory };
+
+    fn from(_fault: NoMemory) -> CommandFault {
+        CommandFault::Memory
     }
 }
 
-// A wait over the built-in table.
-fn read_wait(alloc: Global) -> Result<Command, CommandFault>
-    ensures { Reads (codes "wait\tjobs") result }
+/// Reads one line, without its newline, for tables of these definitions.
+pub fn read_command(alloc: Global, line: &[u8], defs: &Defs) -> Result<Command, CommandFault>
+    requires { length line.now < line_limit }
+    ensures { Reads defs.now line.now result }
 {
-    let mut list = Looks::new(alloc);
-    match list.push(BUILT_IN_TABLE) {
-        Ok(()) => Ok(Command::Wait(list)),
-        Err(NoMemory) => Err(CommandFault::Memory),
-    }
-}
-
-// The row that the fields spell.
-fn read_row(alloc: Global, fields: &[u8]) -> Result<Row, CommandFault>
-    ensures { ReadsRow fields.now result }
-{
-    let at = match memchr(b'\t', fields) {
-        Some(at) => at,
-        None => return Err(CommandFault::NotBuilt),
+    let Ok(text) = std::str::from_utf8(line) else {
+        return Err(CommandFault::NotText);
     };
-    let priority = match parse_signed(&fields[..at]) {
-        Some(priority) => priority,
-        None => return Err(CommandFault::NotBuilt),
-    };
-    match read_body(alloc, &fields[at + 1..]) {
-        Ok(body) => built_in_row(alloc, priority, body),
-        Err(fault) => Err(fault),
+    let (word, args) = split_line(text);
+    match keyword_of(word) {
+        Some(keyword) => read_fields(alloc, keyword, &args, defs),
+        None => Err(CommandFault::Unknown),
     }
 }
 
-// The text that these bytes are.
-fn read_body(alloc: Global, bytes: &[u8]) -> Result<Words, CommandFault>
-    ensures { ReadsBody bytes.now result }
+// Reads the fields behind the word.
+fn read_fields(
+    alloc: Global,
+    keyword: Keyword,
+    args: &Fields,
+    defs: &Defs,
+) -> Result<Command, CommandFault>
+    requires { length args.now < 2 ^ 32 }
+    ensures { ReadsFields defs.now keyword args.now result }
 {
-    if bytes.len() > TEXT_LIMIT {
-        return Err(CommandFault::NotBuilt);
-    }
-    if memchr3(b'\t', b'\r', b'\\', bytes).is_some() {
-        return Err(CommandFault::NotBuilt);
-    }
-    let Ok(text) = std::str::from_utf8(bytes) else {
-        return Err(CommandFault::NotBuilt);
-    };
-    match Words::new(alloc, text) {
-        Ok(words) => Ok(words),
-        Err(NoMemory) => Err(CommandFault::Memory),
+    match keyword {
+        Keyword::Insert => read_insert(alloc, args, defs),
+        Keyword::Wait => read_wait(alloc, args, defs),
+        Keyword::End => read_end(args),
+        Keyword::Quit => read_quit(args),
+        Keyword::Source
+        | Keyword::RowId
+        | Keyword::Abort
+        | Keyword::Select
+        | Keyword::Compact => Err(CommandFault::NotBuilt),
     }
 }
 
-fn built_in_row(alloc: Global, priority: i64, body: Words) -> Result<Row, CommandFault>
-    ensures ok { IfOk result (λ row. row ≡ Int priority ∷ Word body ∷ []) }
-    ensures err { IfErr result (λ fault. fault ≡ CommandFault.Memory) }
+fn read_end(args: &Fields) -> Result<Command, CommandFault>
+    ensures { (defs : List TableDef) → ReadsFields defs word.End args.now result }
 {
-    let mut row = Row::new(alloc);
-    if row.push(Value::Int(priority)).is_err() {
-        return Err(CommandFault::Memory);
-    }
-    if row.push(Value::Word(body)).is_err() {
-        return Err(CommandFault::Memory);
-    }
-    Ok(row)
-}
-
-// The refusal of a line that spells no command, by its first field.
-fn refuse(line: &[u8]) -> CommandFault
-    ensures { Refuses line.now result }
-{
-    if is_command_word(first_field(line)) {
-        return CommandFault::NotBuilt;
-    }
-    CommandFault::Unknown
-}
-
-// The bytes before the first TAB, or all of them.
-fn first_field(line: &[u8]) -> &[u8]
-    ensures { result.now ≡ first_field line.now }
-{
-    match memchr(b'\t', line) {
-        Some(at) => &line[..at],
-        None => line,
+    match args.again().next() {
+        Some(_) => Err(CommandFault::Fields),
+        None => Ok(Command::End),
     }
 }
 
-fn is_command_word(word: &[u8]) -> bool
-    ensures { IsTrue result ↔ Contains command_words word.now }
+fn read_quit(args: &Fields) -> Result<Command, CommandFault>
+    ensures { (defs : List TableDef) → ReadsFields defs word.Quit args.now result }
 {
-    if is_word(word, b"insert") {
-        return true;
+    match args.again().next() {
+        Some(_) => Err(CommandFault::Fields),
+        None => Ok(Command::Quit),
     }
-    if is_word(word, b"srcid") {
-        return true;
-    }
-    if is_word(word, b"wait") {
-        return true;
-    }
-    if is_word(word, b"rowid") {
-        return true;
-    }
-    if is_word(word, b"end") {
-        return true;
-    }
-    if is_word(word, b"abort") {
-        return true;
-    }
-    if is_word(word, b"select") {
-        return true;
-    }
-    if is_word(word, b"compact") {
-        return true;
-    }
-    is_word(word, b"quit")
-}
-
-fn is_word(text: &[u8], word: &[u8]) -> bool
-    ensures { IsTrue result ↔ (text.now ≡ word.now) }
-{
-    text == word
 }

@@ -3,11 +3,12 @@
 
 mod command;
 mod fields;
+mod insert;
+mod keyword;
 mod line_buffer;
 mod reply;
+mod wait;
 
 pub use command::{Command, CommandFault, read_command};
-pub use reply::{Code, Outcome, put_reply};
+pub use reply::{Code, Outcome, put_reply, refusal_of};
 
-#[cfg(test)]
-mod tests;

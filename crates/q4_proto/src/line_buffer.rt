@@ -3,12 +3,12 @@ ghost use Rattle.std.specs.Prelude.{◌≡◌, ◌+◌, ◌≤◌, [], ◌++◌,
 use std::marker::Model;
 
 /// A short line is put together here, so that it goes out by one write.
-const SIZE: usize = 32;
+const SIZE: usize = 96;
 
 /// The bytes of a short line.
 #[derive(Drop)]
 pub struct LineBuffer {
-    bytes: [u8; 32],
+    bytes: [u8; 96],
     filled: usize,
 }
 
@@ -19,7 +19,7 @@ impl Model for LineBuffer {
 
     ghost view = { λ b. take b.filled b.bytes };
 
-    ghost invariant = { λ b. b.filled ≤ 32 };
+    ghost invariant = { λ b. b.filled ≤ 96 };
 }
 
 impl LineBuffer {
@@ -34,7 +34,7 @@ impl LineBuffer {
 
     /// Puts the piece behind what is there.
     pub fn put(&mut self, piece: &[u8])
-        requires { length self.old + length piece.now ≤ 32 }
+        requires { length self.old + length piece.now ≤ 96 }
         ensures { self.new ≡ self.old ++ piece.now }
     {
         let end = self.filled + piece.len();

@@ -1,9 +1,13 @@
-ghost use Rattle.std.specs.Prelude.{◌≡◌, ◌++◌, OnOk, OnErr, IsSome, Some, codes, decimal};
+ghost use Rattle.std.specs.Prelude.{◌≡◌, ◌≤◌, ◌+◌, ◌++◌, OnOk, OnErr, IsSome, length, codes, decimal};
+ghost use Rattle.q4_proto.specs.declared.reply.Outcome.TheVariants as outcome;
+ghost use Rattle.std.specs.Option.{IsSomeAnd};
 ghost use Rattle.q4_flow.specs.Flow.{Took, TookFront, Counts};
-ghost use Rattle.q4_proto.specs.Text.{text, refusal_line, IsOutcome};
+ghost use Rattle.q4_proto.specs.Text.{text, code, code_at, code_within, refusal_words, tab_number, fault_code, IsCode, IsOutcome};
 
+use crate::CommandFault;
 use crate::line_buffer::LineBuffer;
 use itoa::Buffer;
+use q4_cond::CondFault;
 use q4_flow::{Sink, WriteFailed};
 
 /// A refusal: its code, and the numbers that the code's line names. The codes stand in docs/PROTOCOL.md.
@@ -19,8 +23,73 @@ pub struct Code {
 pub enum Outcome {
     Ok,
     Number(u64),
+    Seen(u64),
     Bye,
     Refused(Code),
+}
+
+/// The code of a line that spells no command.
+pub fn refusal_of(fault: CommandFault) -> Code
+    ensures code { result ≡ fault_code fault }
+    ensures listed { IsCode result }
+{
+    match fault {
+        CommandFault::NotText => bare(10),
+        CommandFault::Unknown => bare(11),
+        CommandFault::NotBuilt => bare(19),
+        CommandFault::Fields => bare(12),
+        CommandFault::Escape(field) => at(14, field),
+        CommandFault::NoTable(field) => at(21, field),
+        CommandFault::Cond(entry, fault) => cond_refusal(entry, fault),
+        CommandFault::Count(columns) => at(20, columns),
+        CommandFault::Value(column) => at(22, column),
+        CommandFault::Long => bare(23),
+        CommandFault::Memory => bare(90),
+    }
+}
+
+fn cond_refusal(entry: u32, fault: CondFault) -> Code
+    ensures code { result ≡ fault_code (CommandFault.Cond entry fault) }
+    ensures listed { IsCode result }
+{
+    match fault {
+        CondFault::Long => within(30, entry, 1024),
+        CondFault::At(place) => within(24, entry, place),
+        CondFault::Deep(place) => within(27, entry, place),
+        CondFault::NoColumn(place) => within(28, entry, place),
+        CondFault::Kinds(place) => within(29, entry, place),
+        CondFault::Memory => bare(90),
+    }
+}
+
+fn bare(number: u16) -> Code
+    ensures { result ≡ code number }
+{
+    Code {
+        number,
+        first: None,
+        second: None,
+    }
+}
+
+fn at(number: u16, first: u32) -> Code
+    ensures { result ≡ code_at number first }
+{
+    Code {
+        number,
+        first: Some(u64::from(first)),
+        second: None,
+    }
+}
+
+fn within(number: u16, first: u32, second: u32) -> Code
+    ensures { result ≡ code_within number first second }
+{
+    Code {
+        number,
+        first: Some(u64::from(first)),
+        second: Some(u64::from(second)),
+    }
 }
 
 /// Writes the reply line by one write, and takes no memory. After a failure a front of it was written.
@@ -32,34 +101,81 @@ pub fn put_reply<W: Sink>(outcome: &Outcome, sink: &mut W) -> Result<(), WriteFa
 {
     match outcome {
         Outcome::Ok => sink.write(b"ok\n"),
-        Outcome::Number(number) => sink.write(number_line(*number).as_slice()),
+        Outcome::Number(number) => sink.write(number_line(b"ok\t", *number).as_slice()),
+        Outcome::Seen(mark) => sink.write(number_line(b"seen\t", *mark).as_slice()),
         Outcome::Bye => sink.write(b"bye\n"),
-        Outcome::Refused(code) => sink.write(refusal(code.number)),
+        Outcome::Refused(code) => sink.write(refusal_line(*code).as_slice()),
     }
 }
 
-fn number_line(number: u64) -> LineBuffer
-    ensures { result ≡ codes "ok\t" ++ decimal number ++ codes "\n" }
+fn number_line(word: &[u8], number: u64) -> LineBuffer
+    requires { length word.now ≤ 8 }
+    ensures { result ≡ word.now ++ decimal number ++ codes "\n" }
 {
     let mut digits = Buffer::new();
     let mut line = LineBuffer::new();
-    line.put(b"ok\t");
+    line.put(word);
     line.put(digits.format(number).as_bytes());
     line.put(b"\n");
     line
 }
 
-fn refusal(number: u16) -> &'static [u8]
-    requires { IsSome (refusal_line number) }
-    ensures { refusal_line number ≡ Some result.now }
+fn refusal_line(code: Code) -> LineBuffer
+    requires { IsCode code }
+    ensures { result ≡ text (outcome.Refused code) }
+{
+    let mut digits = Buffer::new();
+    let mut line = LineBuffer::new();
+    line.put(b"err\t");
+    line.put(digits.format(code.number).as_bytes());
+    line.put(b"\t");
+    line.put(refusal_words(code.number));
+    put_number(&mut line, code.first);
+    put_number(&mut line, code.second);
+    line.put(b"\n");
+    line
+}
+
+// Puts a TAB and the number, where there is one.
+fn put_number(line: &mut LineBuffer, number: Option<u64>)
+    requires { length line.old ≤ 64 }
+    ensures put { line.new ≡ line.old ++ tab_number number }
+    ensures short { length line.new ≤ length line.old + 21 }
+{
+    if let Some(number) = number {
+        let mut digits = Buffer::new();
+        line.put(b"\t");
+        line.put(digits.format(number).as_bytes());
+    }
+}
+
+fn refusal_words(number: u16) -> &'static [u8]
+    requires { IsSome (refusal_words number) }
+    ensures words { IsSomeAnd (refusal_words number) (λ line. line.words ≡ result.now) }
+    ensures short { length result.now ≤ 22 }
 {
     match number {
-        11 => b"err\t11\tunknown command\n",
-        19 => b"err\t19\tnot built\n",
-        31 => b"err\t31\tnot in owner mode\n",
-        60 => b"err\t60\tline too long\n",
-        61 => b"err\t61\tpartial line\n",
-        90 => b"err\t90\tout of memory\n",
+        10 => b"not UTF-8",
+        11 => b"unknown command",
+        12 => b"wrong number of fields",
+        14 => b"bad escape",
+        19 => b"not built",
+        20 => b"wrong number of values",
+        21 => b"no table",
+        22 => b"bad value",
+        23 => b"row too long",
+        24 => b"bad condition",
+        27 => b"condition too deep",
+        28 => b"no column",
+        29 => b"wrong kinds",
+        30 => b"condition too long",
+        31 => b"not in owner mode",
+        41 => b"table full",
+        42 => b"table bytes",
+        44 => b"numbers used up",
+        60 => b"line too long",
+        61 => b"partial line",
+        90 => b"out of memory",
         _ => unreachable!(),
     }
 }

@@ -1,5 +1,5 @@
 -- What a change of one row does to the rows of a table.
-use Rattle.std.proofs.Common.{◌≡◌, ◌≢◌, ◌==◌, ◌<◌, ◌∙◌, ◌∷◌, ◌++◌, [], List, ℕ, Bool, true, false, cond, Option, Some, IsSome, map, not, set, get_or, length, slice_get, append-nil, refl, sym, ap, arith}
+use Rattle.std.proofs.Common.{◌≡◌, ◌≢◌, ◌==◌, ◌<◌, ◌∙◌, ◌∷◌, ◌++◌, [], List, ℕ, Bool, true, false, cond, Option, Some, not, set, get_or, length, append-nil, refl, sym, ap, arith}
 use Rattle.std.specs.List.{remove}
 use Rattle.std.proofs.lemmas.Bool.{ne_eqb, eq-eqb}
 use Rattle.std.proofs.lemmas.List.Elements.{filter-append}
@@ -8,7 +8,7 @@ use Rattle.q4_table.specs.Adding.{number_limit}
 use Rattle.q4_table.specs.Place.{IsPlace}
 use Rattle.q4_table.specs.Rows.{row_in, IsThere, owned_by, with_owner, without_row, numbers_of}
 use Rattle.q4_table.specs.Valid.{RiseBelow}
-use Rattle.q4_table.proofs.Places.{map_at, without_at, found_here, get_there, there_inside, there_is}
+use Rattle.q4_table.proofs.Places.{map_at, without_at, found_here, get_there, there_is}
 use Rattle.q4_table.proofs.Rising.{map_keeps, none_next, rise-filter}
 use Rattle.q4_table.proofs.Lookup.{found_last}
 

@@ -5,3 +5,4 @@ pub mod Changes
 pub mod Marking
 pub mod Validity
 pub mod Looks
+pub mod MarkLaws

@@ -1,13 +1,12 @@
 -- The least number is that of the oldest free row.
-use Rattle.std.proofs.Common.{◌≡◌, ◌==◌, ◌<◌, ◌≤◌, ◌∷◌, ◌∙◌, [], List, ℕ, Bool, true, false, cond, ◌&&◌, Option, Some, None, IsTrue, IsSomeAnd, All, find, is_none, refl, sym, ap, subst, arith}
+use Rattle.std.proofs.Common.{◌≡◌, ◌==◌, ◌<◌, ◌≤◌, ◌∷◌, ◌∙◌, [], List, ℕ, Bool, true, false, cond, ◌&&◌, Option, Some, None, IsTrue, All, find, is_none, refl, sym, ap, subst, arith}
 use Rattle.std.specs.Option.{option_map}
 use Rattle.std.proofs.lemmas.Bool.{ne_eqb, eq-eqb}
 use Rattle.std.proofs.lemmas.List.Elements.{All-nil, All-cons, All-weaker}
-use Rattle.q4_value.specs.declared.row.Value.{Value}
 use Rattle.q4_cond.specs.Tree.{Tree}
 use Rattle.q4_cond.specs.Values.{meets}
 use Rattle.q4_table.specs.declared.rows.StoredRow.{StoredRow}
-use Rattle.q4_table.specs.Oldest.{is_free, oldest_meeting, IsFree, IsOldest, TakesOldest}
+use Rattle.q4_table.specs.Oldest.{is_free, oldest_meeting, IsFree, TakesOldest}
 use Rattle.q4_table.specs.Rows.{row_in, numbers_of}
 use Rattle.q4_table.specs.Valid.{RiseBelow}
 use Rattle.q4_table.proofs.Changes.{number}
@@ -47,7 +46,7 @@ first_cases p low next x rows r rise true test is later =
       there = ap (λ (b : Bool). cond b (Some x) (row_in rows x.number)) (eq-eqb x.number x.number refl);
       passes = test;
       first = All-cons (λ (y : StoredRow). p y ≡ true → x.number ≤ y.number) x rows (λ _. omega arith)
-        (All-weaker (λ (y : StoredRow). x.number < y.number) (λ (y : StoredRow). p y ≡ true → x.number ≤ y.number) (λ y above _. let h : x.number < y.number = above in omega (arith, h)) rows (all_above x.number next rows rise.2));
+          (All-weaker (λ (y : StoredRow). x.number < y.number) (λ (y : StoredRow). p y ≡ true → x.number ≤ y.number) (λ y above _. let h : x.number < y.number = above in omega (arith, h)) rows (all_above x.number next rows rise.2));
     })
 first_cases p low next x rows r rise false test is later =
     let rest = later is in

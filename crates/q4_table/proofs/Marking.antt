@@ -100,18 +100,19 @@ rises-middle : (front back : List Mark) (m : Mark) → SourcesRise front → Sou
 rises-middle [] back m rise rise' low high = (high, rise')
 rises-middle (k ∷ front) back m rise rise' low high =
     let here : k.source < m.source = All-head (λ (n : Mark). n.source < m.source) k front low in
-    let behind = All-weaker (λ (n : Mark). m.source < n.source) (λ (n : Mark). k.source < n.source) (λ n later. let h : m.source < n.source = later in omega (arith, h, here)) back high in
-    (All-append (λ (n : Mark). k.source < n.source) front (m ∷ back) rise.0 (All-cons (λ (n : Mark). k.source < n.source) m back here behind),
-    rises-middle front back m rise.1 rise' (All-tail (λ (n : Mark). n.source < m.source) k front low) high)
+    let behind = All-weaker (λ (n : Mark). m.source < n.source) (λ (n : Mark). k.source < n.source) (λ n later. let h : m.source < n.source = later in omega (arith, h, here)) back high in (
+      All-append (λ (n : Mark). k.source < n.source) front (m ∷ back) rise.0 (All-cons (λ (n : Mark). k.source < n.source) m back here behind),
+      rises-middle front back m rise.1 rise' (All-tail (λ (n : Mark). n.source < m.source) k front low) high,
+    )
 
 -- setting a mark leaves marks
 pub marks-with : (s n : ℕ) (marks : List Mark) → IsMark (mark s n) → IsMarks marks → IsMarks (with_mark s n marks)
 marks-with s n marks one all = record {
   rise = rises-middle (filter (lesser s) marks) (filter (greater s) marks) (mark s n) (rises-filter (lesser s) marks all.rise) (rises-filter (greater s) marks all.rise)
-    (All-weaker (λ (m : Mark). lesser s m ≡ true) (λ (m : Mark). m.source < s) (λ m is. ltb-true m.source s is) (filter (lesser s) marks) (filter_passes (lesser s) marks))
-    (All-weaker (λ (m : Mark). greater s m ≡ true) (λ (m : Mark). s < m.source) (λ m is. ltb-true s m.source is) (filter (greater s) marks) (filter_passes (greater s) marks));
+      (All-weaker (λ (m : Mark). lesser s m ≡ true) (λ (m : Mark). m.source < s) (λ m is. ltb-true m.source s is) (filter (lesser s) marks) (filter_passes (lesser s) marks))
+      (All-weaker (λ (m : Mark). greater s m ≡ true) (λ (m : Mark). s < m.source) (λ m is. ltb-true s m.source is) (filter (greater s) marks) (filter_passes (greater s) marks));
   each = All-append IsMark (filter (lesser s) marks) (mark s n ∷ filter (greater s) marks) (All-filter (lesser s) IsMark marks all.each)
-    (All-cons IsMark (mark s n) (filter (greater s) marks) one (All-filter (greater s) IsMark marks all.each));
+      (All-cons IsMark (mark s n) (filter (greater s) marks) one (All-filter (greater s) IsMark marks all.each));
 }
 
 -- by what a call answered

@@ -1,6 +1,6 @@
 -- What stands at the place of a number in a list by rising numbers, and what a change there does.
 use Rattle.std.proofs.Common.{◌≡◌, ◌≢◌, ◌==◌, ◌<◌, ◌≤◌, ◌∷◌, ◌∙◌, [], List, ℕ, zero, suc, Bool, true, false, cond, not, Option, Some, None, IsSome, map, filter, find, length, set, get_or, slice_get, refl, sym, ap, inl, inr, arith}
-use Rattle.std.specs.List.{AllWithin, remove}
+use Rattle.std.specs.List.{remove}
 use Rattle.std.specs.List.Sorted.{IsPartitionPoint, IsNonDecreasingBy}
 use Rattle.std.specs.Option.{option_map}
 use Rattle.std.specs.Prelude.{nat_le, nat_lt}

@@ -1,8 +1,8 @@
 -- What the calls do to a valid table leaves it valid.
-use Rattle.std.proofs.Common.{◌≡◌, ◌≢◌, ◌==◌, ◌<◌, ◌≤◌, ◌+◌, ◌∷◌, ◌++◌, ◌∙◌, [], List, ℕ, Bool, true, false, cond, not, Option, Some, None, IsSome, All, filter, map, length, length-append, sum_by, refl, sym, ap, subst, inl, inr, arith}
+use Rattle.std.proofs.Common.{◌≡◌, ◌≢◌, ◌==◌, ◌≤◌, ◌+◌, ◌∷◌, ◌∙◌, [], List, ℕ, Bool, true, false, cond, not, Option, Some, None, length, length-append, refl, sym, ap, arith}
 use Rattle.std.specs.Option.{ForSome}
 use Rattle.std.specs.Prelude.{nat_lt}
-use Rattle.std.proofs.lemmas.Bool.{eq-eqb, eqb-true, ltb-false, ne_eqb, cases_eq, cases_lt, lt-ltb}
+use Rattle.std.proofs.lemmas.Bool.{eq-eqb, eqb-true, ltb-false}
 use Rattle.std.proofs.lemmas.List.{length-map, map-append}
 use Rattle.std.proofs.lemmas.List.Elements.{All-map, All-filter, All-push, All-weaker}
 use Rattle.std.proofs.lemmas.List.Filters.{length-filter_both, sum_by-filter_both}
@@ -18,7 +18,7 @@ use Rattle.q4_table.specs.Marks.{mark_of}
 use Rattle.q4_table.specs.declared.marks.Mark.{Mark}
 use Rattle.q4_table.specs.Rows.{row_in, owned_by, with_owner, without_row, bytes_of, numbers_of}
 use Rattle.q4_table.specs.Adding.{number_limit, count_limit, bytes_limit, IsOrigin, was_seen, room_for, check_seen, check_of, with_origin, add_row}
-use Rattle.q4_table.specs.Valid.{RiseBelow, IsMark, IsMarks, IsValidTable}
+use Rattle.q4_table.specs.Valid.{RiseBelow, IsMarks, IsValidTable}
 use Rattle.q4_table.proofs.Changes.{number, rise-owned, rise-removed}
 use Rattle.q4_table.proofs.Marking.{marks-with}
 use Rattle.q4_table.proofs.Rising.{rise-push, rise_wider}
@@ -44,7 +44,7 @@ valid-owned table k owner valid = record {
   limit = valid.limit;
   numbers = rise-owned 0 table.next k owner table.rows valid.numbers;
   fit = All-map (λ (r : StoredRow). Fits table.columns r.row) (owned_by k owner) table.rows
-    (All-weaker (λ (r : StoredRow). Fits table.columns r.row) (λ (r : StoredRow). Fits table.columns (owned_by k owner r).row) (λ r fits. rw (keeps_row k owner r) fits) table.rows valid.fit);
+      (All-weaker (λ (r : StoredRow). Fits table.columns r.row) (λ (r : StoredRow). Fits table.columns (owned_by k owner r).row) (λ r fits. rw (keeps_row k owner r) fits) table.rows valid.fit);
   marks = valid.marks;
   count = omega (arith, length-map table.rows (owned_by k owner), valid.count);
   bytes = omega (arith, bytes-owned k owner table.rows, valid.bytes);

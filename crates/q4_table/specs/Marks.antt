@@ -1,5 +1,5 @@
 -- The marks of a table: for each source the number that its last row had there.
-use Rattle.std.specs.Prelude.{◌==◌, ℕ, List, [], ◌∷◌, ◌++◌, filter, find, nat_lt, unwrap_or}
+use Rattle.std.specs.Prelude.{◌==◌, ℕ, List, ◌∷◌, ◌++◌, filter, find, nat_lt, unwrap_or}
 use Rattle.std.specs.Option.{option_map}
 use Rattle.q4_table.specs.declared.marks.Mark.{Mark}
 

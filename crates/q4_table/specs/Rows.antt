@@ -1,5 +1,5 @@
 -- The rows of a table: how one is found, owned, given back and removed, and the sum of their sizes.
-use Rattle.std.specs.Prelude.{◌≡◌, ◌==◌, ◌≤◌, ℕ, List, [], ◌∷◌, Option, None, Some, IsSome, IsSomeAnd, map, filter, find, min, not, nat_le, sum_by, option_and_then, if◌then◌else◌}
+use Rattle.std.specs.Prelude.{◌≡◌, ◌==◌, ℕ, List, [], ◌∷◌, Option, None, Some, IsSome, IsSomeAnd, map, filter, find, min, not, nat_le, sum_by, option_and_then, if◌then◌else◌}
 use Rattle.std.specs.Option.{option_map, option_map_or}
 use Rattle.q4_value.specs.declared.row.Value.{Value}
 use Rattle.q4_value.specs.Row.{row_size}

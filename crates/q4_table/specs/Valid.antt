@@ -1,9 +1,8 @@
 -- Which tables are valid: numbers and sources rise, rows fit, and the limits hold.
-use Rattle.std.specs.Prelude.{◌≡◌, ◌<◌, ◌≤◌, ◌+◌, ℕ, List, [], ◌∷◌, All, length}
+use Rattle.std.specs.Prelude.{◌<◌, ◌≤◌, ℕ, List, [], ◌∷◌, All, length}
 use Rattle.q4_value.specs.declared.column.Column.{Column}
 use Rattle.q4_value.specs.Row.{Fits}
 use Rattle.q4_table.specs.declared.marks.Mark.{Mark}
-use Rattle.q4_table.specs.declared.rows.StoredRow.{StoredRow}
 use Rattle.q4_table.specs.TableState.{TableState}
 use Rattle.q4_table.specs.Rows.{numbers_of, bytes_of}
 use Rattle.q4_table.specs.Adding.{number_limit, source_limit, count_limit, bytes_limit}

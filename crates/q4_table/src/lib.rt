@@ -9,7 +9,7 @@ mod rows;
 mod table;
 
 pub use adding::{AddFault, Added, Check};
-pub use laws::{changes_keep_tables_valid, oldest_is_taken};
+pub use laws::{changes_keep_tables_valid, marks_are_set, oldest_is_taken};
 pub use marks::Mark;
 pub use origin::{Mode, Origin};
 pub use rows::StoredRow;

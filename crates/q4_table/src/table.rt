@@ -119,8 +119,9 @@ impl Table {
         }
     }
 
-    /// Adds a row behind the others, unowned, with the next number, which is then the mark's of its source.
-    /// It answers what `check` says. A refusal gives the row back; neither it nor `Seen` changes anything.
+    /// Adds a row behind the others, unowned, with the next number. The origin's number becomes the mark of its
+    /// source. It answers what `check` says, or that it wants memory for a new row. A refusal gives the row back;
+    /// neither it nor `Seen` changes anything.
     pub fn add(&mut self, row: Row, origin: Option<Origin>) -> Result<Added, (AddFault, Row)>
         requires row { Fits self.old.columns row }
         requires origin { ForSome origin IsOrigin }

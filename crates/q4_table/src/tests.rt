@@ -52,15 +52,11 @@ fn job(rt: &impl Abort, alloc: Global, table: &Table, prio: i64, body: &str) -> 
 }
 
 // The origin, which has to be valid.
-fn origin(rt: &impl Abort, source: u8, mode: Mode, number: u64) -> Option<Origin>
-    ensures { ForSome result IsOrigin }
+fn valid(rt: &impl Abort, origin: Origin) -> Origin
+    ensures { IsOrigin result }
 {
-    assert!(rt; source < 64 && number >= 1 && number < 1 << 62);
-    Some(Origin {
-        source,
-        mode,
-        number,
-    })
+    assert!(rt; origin.source < 64 && origin.number >= 1 && origin.number < 1 << 62);
+    origin
 }
 
 // Adds the row, and has to get what was foretold.
@@ -81,11 +77,6 @@ fn add(rt: &impl Abort, table: &mut Table, row: Row, origin: Option<Origin>, wan
         }
         _ => panic!(rt; "another answer"),
     }
-}
-
-fn add_job(rt: &impl Abort, alloc: Global, table: &mut Table, prio: i64, body: &str) {
-    let row = job(rt, alloc, table, prio, body);
-    add(rt, table, row, None, Check::New);
 }
 
 // The oldest free row that meets the condition.
@@ -111,130 +102,256 @@ fn end(rt: &impl Abort, table: &mut Table, number: u64) {
     table.end(number);
 }
 
+fn mark(rt: &impl Abort, table: &Table, source: u8) -> u64 {
+    assert!(rt; source < 64);
+    table.mark(source)
+}
+
+fn set_mark(rt: &impl Abort, table: &mut Table, source: u8, number: u64) {
+    assert!(rt; source < 64 && number >= 1 && number < 1 << 62);
+    assert!(rt; table.set_mark(source, number).is_ok());
+}
+
+fn set_next(rt: &impl Abort, table: &mut Table, number: u64) {
+    assert!(rt; table.next() <= number && number <= 1 << 62);
+    table.set_next(number);
+}
+
+// One step of a test: a call, and what it has to answer.
+#[derive(Clone, Copy)]
+enum Step {
+    // A row of this number and text is added, from nowhere.
+    Add(i64, &'static str),
+    // A row of number 1 and an empty text: its origin, what comes of it, and the mark afterwards.
+    From(u8, Mode, u64, Check, u64),
+    // The same row from nowhere, and why it is refused.
+    Refused(Check),
+    Own(u64, u64),
+    Release(u64),
+    End(u64),
+    SetMark(u8, u64),
+    SetNext(u64),
+    // A condition, and the oldest free row that meets it.
+    Oldest(&'static str, Option<u64>),
+    // A number, and the least row number from it on.
+    Live(u64, Option<u64>),
+    // A row's number, its first value, and its owner.
+    Stored(u64, i64, Option<u64>),
+    Gone(u64),
+    Mark(u8, u64),
+    // The next number, the count of rows and the sum of their sizes.
+    Stands(u64, u32, u64),
+}
+
+use Step::*;
+
+// The first value of the row, which has to be a number.
+fn first_number(rt: &impl Abort, table: &Table, number: u64) -> i64 {
+    let Some(row) = table.row(number) else {
+        panic!(rt; "no row");
+    };
+    match row.at(0) {
+        Some(Value::Int(number)) => *number,
+        _ => panic!(rt; "no number"),
+    }
+}
+
+fn add_from(rt: &impl Abort, alloc: Global, table: &mut Table, origin: Origin, wanted: Check) {
+    let origin = valid(rt, origin);
+    let row = job(rt, alloc, table, 1, "");
+    add(rt, table, row, Some(origin), wanted);
+}
+
+fn change(rt: &impl Abort, alloc: Global, table: &mut Table, step: Step) {
+    match step {
+        Step::Add(prio, body) => {
+            let row = job(rt, alloc, table, prio, body);
+            add(rt, table, row, None, Check::New);
+        }
+        Step::From(source, mode, number, wanted, _) => {
+            let origin = Origin {
+                source,
+                mode,
+                number,
+            };
+            add_from(rt, alloc, table, origin, wanted);
+        }
+        Step::Refused(wanted) => {
+            let row = job(rt, alloc, table, 1, "");
+            add(rt, table, row, None, wanted);
+        }
+        Step::Own(number, session) => own(rt, table, number, session),
+        Step::Release(number) => release(rt, table, number),
+        Step::End(number) => end(rt, table, number),
+        Step::SetMark(source, number) => set_mark(rt, table, source, number),
+        Step::SetNext(number) => set_next(rt, table, number),
+        _ => {}
+    }
+}
+
+fn look(rt: &impl Abort, alloc: Global, table: &Table, step: Step) {
+    match step {
+        Step::From(source, _, _, _, wanted) | Step::Mark(source, wanted) => {
+            assert_eq!(rt; mark(rt, table, source), wanted, "{source}");
+        }
+        Step::Oldest(text, wanted) => {
+            assert_eq!(rt; oldest(rt, alloc, table, text), wanted, "{text}");
+        }
+        Step::Live(number, wanted) => {
+            assert_eq!(rt; table.live_from(number), wanted, "{number}");
+        }
+        Step::Stored(number, first, owner) => {
+            assert_eq!(rt; first_number(rt, table, number), first);
+            assert_eq!(rt; table.owner(number), owner, "{number}");
+        }
+        Step::Gone(number) => {
+            assert!(rt; table.row(number).is_none() && table.owner(number).is_none());
+        }
+        Step::Stands(next, count, bytes) => {
+            assert_eq!(rt;
+                (table.next(), table.count(), table.bytes()),
+                (next, count, bytes)
+            );
+        }
+        _ => {}
+    }
+}
+
+fn follow(rt: &impl Abort, alloc: Global, table: &mut Table, steps: &[Step]) {
+    for step in steps {
+        change(rt, alloc, table, *step);
+        look(rt, alloc, table, *step);
+    }
+}
+
 #[test]
 fn looks_take_the_oldest_row_that_meets_the_condition(rt: HostRuntime) -> Result<(), Fail> {
-    let alloc = rt.alloc();
-    let mut table = jobs(&rt, alloc);
-    assert_eq!(rt; oldest(&rt, alloc, &table, ""), None);
-    for (prio, body) in [(1, "a"), (9, "bc"), (5, "d")] {
-        add_job(&rt, alloc, &mut table, prio, body);
-    }
-    // Each with the row that it takes while nobody owns a row.
-    let conditions = [
-        ("", Some(1)),
-        ("prio>=5", Some(2)),
-        ("prio>9", None),
-        ("body='d'", Some(3)),
-        ("prio/0", None),
+    let steps = [
+        Oldest("", None),
+        Add(1, "a"),
+        Add(9, "bc"),
+        Add(5, "d"),
+        Oldest("", Some(1)),
+        Oldest("prio>=5", Some(2)),
+        Oldest("prio>9", None),
+        Oldest("body='d'", Some(3)),
+        Oldest("prio/0", None),
+        Own(2, 7),
+        Oldest("prio>=5", Some(3)),
+        Own(3, 8),
+        Oldest("prio>=5", None),
+        Release(2),
+        Oldest("prio>=5", Some(2)),
+        End(2),
+        Oldest("prio>=5", None),
+        Release(3),
+        Oldest("prio>=5", Some(3)),
     ];
-    for (text, wanted) in conditions {
-        assert_eq!(rt; oldest(&rt, alloc, &table, text), wanted, "{text}");
-    }
-    own(&rt, &mut table, 2, 7);
-    assert_eq!(rt; (table.owner(1), table.owner(2), table.owner(4)), (None, Some(7), None));
-    assert_eq!(rt; oldest(&rt, alloc, &table, "prio>=5"), Some(3));
-    own(&rt, &mut table, 3, 8);
-    assert_eq!(rt; oldest(&rt, alloc, &table, "prio>=5"), None);
-    release(&rt, &mut table, 2);
-    assert_eq!(rt; oldest(&rt, alloc, &table, "prio>=5"), Some(2));
-    end(&rt, &mut table, 2);
-    assert_eq!(rt; oldest(&rt, alloc, &table, "prio>=5"), None);
-    release(&rt, &mut table, 3);
-    assert_eq!(rt; oldest(&rt, alloc, &table, "prio>=5"), Some(3));
+    follow(&rt, rt.alloc(), &mut jobs(&rt, rt.alloc()), &steps);
     Ok(())
 }
 
 #[test]
 fn rows_are_found_by_their_numbers(rt: HostRuntime) -> Result<(), Fail> {
-    let alloc = rt.alloc();
-    let mut table = jobs(&rt, alloc);
-    for (prio, body) in [(1, "a"), (9, "bc"), (5, "d"), (6, "")] {
-        add_job(&rt, alloc, &mut table, prio, body);
-    }
     // 8 for each number, 4 and its bytes for each text.
-    assert_eq!(rt; (table.next(), table.count(), table.bytes()), (5, 4, 52));
-    end(&rt, &mut table, 2);
-    end(&rt, &mut table, 4);
-    assert_eq!(rt; (table.next(), table.count(), table.bytes()), (5, 2, 26));
-    let live = [(0, Some(1)), (1, Some(1)), (2, Some(3)), (3, Some(3)), (4, None)];
-    for (number, wanted) in live {
-        assert_eq!(rt; table.live_from(number), wanted, "{number}");
-    }
-    for (number, wanted) in [(0, false), (1, true), (2, false), (3, true), (4, false)] {
-        assert_eq!(rt; table.row(number).is_some(), wanted, "{number}");
-    }
-    let Some(Value::Int(prio)) = table.row(3).and_then(|row| row.at(0)) else {
-        panic!(&rt; "no number");
-    };
-    assert_eq!(rt; *prio, 5);
-    // A number is not given again, and the copy is a table of its own.
-    own(&rt, &mut table, 3, 7);
-    let Ok(mut copy) = table.copy(alloc) else {
+    let steps = [
+        Stands(1, 0, 0),
+        Add(1, "a"),
+        Add(9, "bc"),
+        Add(5, "d"),
+        Add(6, ""),
+        Stands(5, 4, 52),
+        End(2),
+        End(4),
+        Stands(5, 2, 26),
+        Live(0, Some(1)),
+        Live(1, Some(1)),
+        Live(2, Some(3)),
+        Live(3, Some(3)),
+        Live(4, None),
+        Gone(0),
+        Gone(2),
+        Gone(4),
+        Own(3, 7),
+        Stored(1, 1, None),
+        Stored(3, 5, Some(7)),
+    ];
+    let mut table = jobs(&rt, rt.alloc());
+    follow(&rt, rt.alloc(), &mut table, &steps);
+    // The copy is a table of its own, and no number is given again.
+    let Ok(mut copy) = table.copy(rt.alloc()) else {
         panic!(&rt; "memory");
     };
-    add_job(&rt, alloc, &mut copy, 2, "e");
-    assert_eq!(rt; (copy.live_from(4), table.live_from(4)), (Some(5), None));
-    assert_eq!(rt; (copy.owner(3), copy.columns().len()), (Some(7), 2));
+    let more = [
+        Stored(3, 5, Some(7)),
+        Add(2, "e"),
+        Live(4, Some(5)),
+        Stands(6, 3, 39),
+    ];
+    follow(&rt, rt.alloc(), &mut copy, &more);
+    follow(
+        &rt,
+        rt.alloc(),
+        &mut table,
+        &[Live(4, None), Stands(5, 2, 26)],
+    );
+    assert_eq!(rt; copy.columns().len(), 2);
     Ok(())
 }
 
 #[test]
 fn marks_tell_what_was_seen(rt: HostRuntime) -> Result<(), Fail> {
-    let alloc = rt.alloc();
-    let mut table = jobs(&rt, alloc);
-    // A source, a mode and a number there, what comes of it, and the mark afterwards.
-    let inserts = [
-        (4, Mode::A, 10, Check::New, 10),
-        (4, Mode::A, 10, Check::Seen(10), 10),
-        (4, Mode::A, 3, Check::Seen(10), 10),
-        (4, Mode::A, 11, Check::New, 11),
-        (0, Mode::A, 1, Check::New, 1),
-        (63, Mode::W, 5, Check::New, 5),
-        (4, Mode::W, 11, Check::New, 11),
-        (4, Mode::W, 2, Check::New, 2),
-        (4, Mode::A, 2, Check::Seen(2), 2),
-        (4, Mode::A, 3, Check::New, 3),
-        (0, Mode::A, 1, Check::Seen(1), 1),
-        (63, Mode::A, (1 << 62) - 1, Check::New, (1 << 62) - 1),
+    let last = (1 << 62) - 1;
+    let steps = [
+        From(4, Mode::A, 10, Check::New, 10),
+        From(4, Mode::A, 10, Check::Seen(10), 10),
+        From(4, Mode::A, 3, Check::Seen(10), 10),
+        From(4, Mode::A, 11, Check::New, 11),
+        From(0, Mode::A, 1, Check::New, 1),
+        From(63, Mode::W, 5, Check::New, 5),
+        From(4, Mode::W, 11, Check::New, 11),
+        From(4, Mode::W, 2, Check::New, 2),
+        From(4, Mode::A, 2, Check::Seen(2), 2),
+        From(4, Mode::A, 3, Check::New, 3),
+        From(0, Mode::A, 1, Check::Seen(1), 1),
+        From(63, Mode::A, last, Check::New, last),
+        Mark(5, 0),
+        Stands(9, 8, 96),
+        // What a file says of a table.
+        SetMark(5, 6),
+        SetMark(4, 1),
+        Mark(4, 1),
+        Mark(5, 6),
+        Mark(63, last),
+        SetNext(100),
+        Add(1, ""),
+        Live(9, Some(100)),
+        Stands(101, 9, 108),
     ];
-    for (source, mode, number, wanted, mark) in inserts {
-        let row = job(&rt, alloc, &table, 1, "");
-        add(&rt, &mut table, row, origin(&rt, source, mode, number), wanted);
-        assert_eq!(rt; table.mark(source), mark, "{source} {number}");
-    }
-    assert_eq!(rt; (table.next(), table.count(), table.mark(5)), (9, 8, 0));
-    // What a file says of a table.
-    assert!(rt; table.set_mark(5, 6).is_ok() && table.set_mark(4, 1).is_ok());
-    assert_eq!(rt; (table.mark(4), table.mark(5), table.mark(63)), (1, 6, (1 << 62) - 1));
-    table.set_next(100);
-    add_job(&rt, alloc, &mut table, 1, "");
-    assert_eq!(rt; (table.live_from(9), table.next()), (Some(100), 101));
+    follow(&rt, rt.alloc(), &mut jobs(&rt, rt.alloc()), &steps);
     Ok(())
 }
 
-// Numbers go before places, and a number that was seen before both.
+// A number that was seen before goes before the numbers, and these before the places.
 #[test]
 fn full_tables_refuse_rows(rt: HostRuntime) -> Result<(), Fail> {
-    let alloc = rt.alloc();
-    let mut table = jobs(&rt, alloc);
+    let mut table = jobs(&rt, rt.alloc());
     for _ in 0..249_999 {
-        add_job(&rt, alloc, &mut table, 1, "");
+        change(&rt, rt.alloc(), &mut table, Add(1, ""));
     }
-    let row = job(&rt, alloc, &table, 1, "");
-    add(&rt, &mut table, row, origin(&rt, 1, Mode::A, 7), Check::New);
-    let row = job(&rt, alloc, &table, 1, "");
-    add(&rt, &mut table, row, None, Check::Rows);
-    let row = job(&rt, alloc, &table, 1, "");
-    add(&rt, &mut table, row, origin(&rt, 1, Mode::A, 7), Check::Seen(7));
-    table.set_next(1 << 62);
-    let row = job(&rt, alloc, &table, 1, "");
-    add(&rt, &mut table, row, None, Check::Spent);
-    let row = job(&rt, alloc, &table, 1, "");
-    add(&rt, &mut table, row, origin(&rt, 1, Mode::A, 7), Check::Seen(7));
-    end(&rt, &mut table, 125_000);
-    let row = job(&rt, alloc, &table, 1, "");
-    add(&rt, &mut table, row, None, Check::Spent);
-    assert_eq!(rt; (table.count(), table.bytes()), (249_999, 2_999_988));
+    let steps = [
+        From(1, Mode::A, 7, Check::New, 7),
+        Refused(Check::Rows),
+        From(1, Mode::A, 7, Check::Seen(7), 7),
+        From(1, Mode::A, 8, Check::Rows, 7),
+        SetNext(1 << 62),
+        Refused(Check::Spent),
+        From(1, Mode::A, 7, Check::Seen(7), 7),
+        End(125_000),
+        Refused(Check::Spent),
+        Stands(1 << 62, 249_999, 2_999_988),
+    ];
+    follow(&rt, rt.alloc(), &mut table, &steps);
     Ok(())
 }
 
@@ -279,6 +396,9 @@ fn bytes_of_rows_are_limited(rt: HostRuntime) -> Result<(), Fail> {
     end(&rt, &mut table, 2);
     let row = fitting(&rt, &table, longest);
     add(&rt, &mut table, row, None, Check::New);
-    assert_eq!(rt; (table.bytes(), table.count(), table.next()), (33_554_432, 32, 34));
+    assert_eq!(rt;
+        (table.bytes(), table.count(), table.next()),
+        (33_554_432, 32, 34)
+    );
     Ok(())
 }

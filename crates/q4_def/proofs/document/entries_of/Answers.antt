@@ -1,5 +1,5 @@
-use Rattle.std.proofs.Common.{◌≡◌, Some, None, codes, refl, sym, ap, arith, ◌∙◌}
-use Rattle.toml.specs.Data.{get_member, array, as_table, as_str}
+use Rattle.std.proofs.Common.{◌≡◌, Some, codes, sym, ap, ◌∙◌}
+use Rattle.toml.specs.Data.{get_member, array, as_table}
 use Rattle.toml.specs.View.{view, table_view, items_view}
 use Rattle.toml.proofs.Views.{table_get}
 use Rattle.q4_def.proofs.Forms.{no_name, no_string, no_columns, no_list, as_items, entries_in}

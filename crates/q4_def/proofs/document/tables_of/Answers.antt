@@ -1,6 +1,6 @@
-use Rattle.std.proofs.Common.{◌≡◌, Some, None, codes, refl, sym, ap, arith, ◌∙◌}
+use Rattle.std.proofs.Common.{◌≡◌, Some, None, codes, sym, ap, arith, ◌∙◌}
 use Rattle.std.proofs.lemmas.Bool.{eqb-true, eqb-false}
-use Rattle.toml.specs.Data.{get_member, array}
+use Rattle.toml.specs.Data.{get_member}
 use Rattle.toml.specs.View.{view, table_view, items_view}
 use Rattle.toml.proofs.Views.{table_get}
 use Rattle.q4_def.proofs.Forms.{no_tables, no_array, as_items, no_tables_in, tables_in}

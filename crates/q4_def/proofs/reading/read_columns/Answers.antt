@@ -1,4 +1,4 @@
-use Rattle.std.proofs.Common.{ap, length, arith, length-append, ◌∷◌, []}
+use Rattle.std.proofs.Common.{arith, length-append, ◌∷◌, []}
 use Rattle.std.proofs.lemmas.Result.{err_from_is_err_and}
 use Rattle.q4_def.proofs.Growing.{column_fault, column_next, named_push}
 use Rattle.q4_def.proofs.reading.read_columns.Goals as goal

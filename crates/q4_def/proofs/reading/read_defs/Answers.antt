@@ -1,9 +1,9 @@
-use Rattle.std.proofs.Common.{refl, sym, ap, subst, map, length, arith, ◌∙◌, List, ℕ, Bor}
+use Rattle.std.proofs.Common.{refl, sym, map, arith, ◌∙◌}
 use Rattle.std.proofs.lemmas.Result.{err_from_is_err_and}
 use Rattle.std.proofs.lemmas.List.{length-map}
 use Rattle.std.proofs.lemmas.Bool.{eqb-false}
 use Rattle.toml.specs.View.{view, table_view}
-use Rattle.q4_def.specs.Faults.{FirstTableFails, DocumentFails, no_tables, too_many, bad_table, Fails}
+use Rattle.q4_def.specs.Faults.{FirstTableFails, no_tables, too_many, bad_table, Fails}
 use Rattle.q4_def.specs.Document.{Defines}
 use Rattle.q4_def.proofs.Growing.{file_fault, or_memory_by, length_zip}
 use Rattle.q4_def.proofs.reading.read_defs.Goals as goal

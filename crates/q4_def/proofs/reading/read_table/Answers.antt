@@ -1,6 +1,5 @@
-use Rattle.std.proofs.Common.{◌+◌, refl, sym, ap, subst, map, length, arith, ◌∙◌, List, ℕ, Bor}
+use Rattle.std.proofs.Common.{◌+◌, refl, map, length, arith}
 use Rattle.std.proofs.lemmas.Result.{err_from_is_err_and}
-use Rattle.std.proofs.lemmas.List.{length-map}
 use Rattle.toml.specs.Data.{string}
 use Rattle.toml.specs.View.{view}
 use Rattle.q4_def.specs.Tables.{names_of}

@@ -1,4 +1,4 @@
-use Rattle.std.proofs.Common.{ap, length, arith, length-append, ◌∷◌, []}
+use Rattle.std.proofs.Common.{arith, length-append, ◌∷◌, []}
 use Rattle.std.proofs.lemmas.Result.{err_from_is_err_and}
 use Rattle.q4_def.proofs.Growing.{table_fault, table_next, distinct_push}
 use Rattle.q4_def.proofs.reading.read_tables.Goals as goal

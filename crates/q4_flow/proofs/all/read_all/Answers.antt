@@ -1,4 +1,4 @@
-use Rattle.std.proofs.Common.{◌≡◌, ◌≤◌, ◌<◌, ◌+◌, ◌++◌, ◌∙◌, length, take, refl, ap, arith, length-append}
+use Rattle.std.proofs.Common.{◌≡◌, ◌++◌, ◌∙◌, length, take, refl, ap, arith, length-append}
 use Rattle.std.proofs.lemmas.List.{length-take-le}
 use Rattle.q4_flow.proofs.Cutting.{whole_chunk}
 use Rattle.q4_flow.proofs.Known.{gave_nothing, gave_more, gave_end}

@@ -1,4 +1,4 @@
-use Rattle.std.proofs.Common.{◌≡◌, ◌++◌, List, ℕ, refl, sym, ap, subst, IsTrue}
+use Rattle.std.proofs.Common.{◌++◌, List, ℕ, refl, sym, ap, subst, IsTrue}
 use Rattle.q4_flow.specs.Lines.{Cuts}
 use Rattle.q4_flow.specs.Reading.{Reading}
 use Rattle.q4_flow.proofs.Cutting.{cuts_same}

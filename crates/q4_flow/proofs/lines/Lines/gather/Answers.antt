@@ -1,6 +1,5 @@
-use Rattle.std.proofs.Common.{◌≡◌, ◌≢◌, ◌≤◌, ◌++◌, ◌∙◌, [], ℕ, length, subst, sym, ap, arith, slice_range, take, append-nil}
+use Rattle.std.proofs.Common.{◌≡◌, ◌≤◌, ◌++◌, ◌∙◌, [], length, sym, arith, take, append-nil}
 use Rattle.std.proofs.lemmas.List.{length-take-le}
-use Rattle.q4_flow.specs.Lines.{Appended, line_limit}
 use Rattle.q4_flow.proofs.Cutting.{gathered_line, gathered_all, too_long, no_range, whole_chunk, more_bytes, range_from_zero}
 use Rattle.q4_flow.proofs.Known.{gave_more}
 use Rattle.q4_flow.proofs.lines.Lines.gather.Goals as goal

@@ -1,4 +1,4 @@
-use Rattle.std.proofs.Common.{◌≡◌, ◌∙◌, Some, List, ℕ, sym, ap, take, drop}
+use Rattle.std.proofs.Common.{◌≡◌, ◌∙◌, Some, sym, ap, take, drop}
 use Rattle.q4_flow.specs.Memory.{Input}
 use Rattle.q4_flow.proofs.Cutting.{front_and_rest, slice_to_end}
 use Rattle.q4_flow.proofs.memory.MemorySourceSource.read.Goals as goal

@@ -9,5 +9,5 @@ pub returns : goal.returns
 returns c =
     let marks = c.self.inside.marks.items in
     let parted = IsPartitionPoint-from_clause (λ (m : Mark). nat_lt m.source c.args.source) c.deref.result.now c.partition_point.result c.partition_point.ensures.partitioned
-        (rw c.deref.ensures.value (IsPartitionedBy-ltb source marks c.args.source (sources_order marks c.self.invariant.rise))) (λ f a r g. search rules) in
+    (rw c.deref.ensures.value (IsPartitionedBy-ltb source marks c.args.source (sources_order marks c.self.invariant.rise))) (λ f a r g. search rules) in
     rw (← c.self.view_is, ← c.deref.ensures.value) (place_from source c.args.source c.partition_point.result c.deref.result.now c.partition_point.ensures.bound parted)

@@ -1,4 +1,4 @@
-use Rattle.std.proofs.Common.{ℕ, length, sym}
+use Rattle.std.proofs.Common.{length, sym}
 use Rattle.std.proofs.lemmas.Bool.{ltb-true, ltb-false}
 use Rattle.q4_table.specs.Adding.{number_limit}
 use Rattle.q4_table.proofs.Changes.{number}

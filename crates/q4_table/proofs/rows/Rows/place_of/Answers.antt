@@ -10,5 +10,5 @@ returns c =
     let number : StoredRow → ℕ = λ r. r.number in
     let rows = c.self.inside.rows.items in
     let parted = IsPartitionPoint-from_clause (λ (r : StoredRow). nat_lt r.number c.args.number) c.deref.result.now c.partition_point.result c.partition_point.ensures.partitioned
-        (rw c.deref.ensures.value (IsPartitionedBy-ltb number rows c.args.number (rise_orders number 0 number_limit rows c.self.invariant))) (λ f a r g. search rules) in
+    (rw c.deref.ensures.value (IsPartitionedBy-ltb number rows c.args.number (rise_orders number 0 number_limit rows c.self.invariant))) (λ f a r g. search rules) in
     rw (← c.self.view_is, ← c.deref.ensures.value) (place_from number c.args.number c.partition_point.result c.deref.result.now c.partition_point.ensures.bound parted)

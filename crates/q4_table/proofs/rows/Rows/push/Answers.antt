@@ -1,9 +1,8 @@
-use Rattle.std.proofs.Common.{◌+◌, map, subst, sym, arith}
+use Rattle.std.proofs.Common.{◌+◌, subst, sym, arith}
 use Rattle.std.proofs.lemmas.List.{map-append}
 use Rattle.q4_table.specs.Adding.{number_limit}
 use Rattle.q4_table.specs.Rows.{numbers_of}
 use Rattle.q4_table.specs.Valid.{RiseBelow}
-use Rattle.q4_table.proofs.Changes.{number}
 use Rattle.q4_table.proofs.Rising.{rise-push, rise_wider}
 use Rattle.q4_table.proofs.rows.Rows.push.Goals.{in-Ok, in-Err}
 use Rattle.q4_table.proofs.rows.Rows.push.Goals as goal

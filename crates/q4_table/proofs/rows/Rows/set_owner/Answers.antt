@@ -1,4 +1,4 @@
-use Rattle.std.proofs.Common.{length, sym, subst, arith}
+use Rattle.std.proofs.Common.{sym, subst, arith}
 use Rattle.q4_table.specs.Adding.{number_limit}
 use Rattle.q4_table.specs.Place.{IsPlace}
 use Rattle.q4_table.specs.Rows.{IsThere}

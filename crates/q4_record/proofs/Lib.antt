@@ -1,0 +1,14 @@
+pub mod WideRows
+pub mod Cuts
+pub mod Extending
+pub mod Limits
+pub mod Inserting
+pub mod Heads
+pub mod Recording
+pub mod Schemas
+pub mod Sections
+pub mod Batches
+pub mod Bases
+pub mod Sides
+pub mod Once
+pub mod OneSide

@@ -1,0 +1,24 @@
+use Rattle.std.proofs.Common.{refl, sym, ap, subst, inl}
+use Rattle.q4_record.specs.Extents.{IsRowExtent}
+use Rattle.q4_record.proofs.Inserting.{whole_passes, whole_short, no_row_cut, no_row_ill}
+use Rattle.q4_record.proofs.replay.Replay.long_row_fault.Goals as goal
+
+pub returns-in-Some : goal.returns-in-Some
+returns-in-Some c =
+    let w = rw (c.in-Whole.is, c.columns.ensures) at c.row_extent-extent.ensures in
+    inl (whole_passes c.args.self.now c.args.number c.args.origin c.args.bytes.now c.in-Whole.len c.row_extent-extent.result.1 c.in-Some.limit c.limit_passed.result w c.limit_passed.ensures c.in-Some.is)
+
+pub returns-in-None : goal.returns-in-None
+returns-in-None c =
+    let w = rw (c.in-Whole.is, c.columns.ensures) at c.row_extent-extent.ensures in
+    absurd (whole_short c.args.self.now c.args.number c.args.origin c.args.bytes.now c.in-Whole.len c.row_extent-extent.result.1 c.limit_passed.result w c.limit_passed.ensures c.in-None.is c.requires)
+
+pub returns-else-long : goal.returns-else-long
+returns-else-long c =
+    let w = rw (c.in-Cut.is, c.columns.ensures, c.if-long.false) at c.row_extent-extent.ensures in
+    (refl, no_row_cut c.args.self.now c.args.number c.args.origin c.args.bytes.now w)
+
+pub returns-in-IllFormed : goal.returns-in-IllFormed
+returns-in-IllFormed c =
+    let w = rw (c.in-IllFormed.is, c.columns.ensures) at c.row_extent-extent.ensures in
+    (refl, no_row_ill c.args.self.now c.args.number c.args.origin c.args.bytes.now w)

@@ -1,0 +1,17 @@
+use Rattle.std.proofs.Common.{refl}
+use Rattle.std.proofs.lemmas.Result.{IfOk-weaker, IfErr-weaker}
+use Rattle.q4_record.specs.Parts.{RowStands, RowFails, RecordStood, RecordFailed}
+use Rattle.q4_record.proofs.Recording.{record_stood, record_failed}
+use Rattle.q4_record.proofs.replay.Replay.read_record.Goals as goal
+
+pub returns-clause-stands : goal.returns-clause-stands
+returns-clause-stands c =
+    let head = c.in-Some.ensures.head in
+    IfOk-weaker c.replay.result (λ rest. RowStands c.args.self.now c.in-Some.head c.in-Some.rest.now c.replay.new.self rest.now) (λ rest. RecordStood c.args.self.now c.args.bytes.now c.replay.new.self rest.now)
+    (λ rest s. record_stood c.args.self.now c.in-Some.head c.args.bytes.now c.in-Some.rest.now c.replay.new.self rest.now head.0 head.1 c.if-not-may_come.ensures.may s) c.replay.ensures.stands
+
+pub returns-clause-fault : goal.returns-clause-fault
+returns-clause-fault c =
+    let head = c.in-Some.ensures.head in
+    IfErr-weaker c.replay.result (RowFails c.args.self.now c.in-Some.head c.in-Some.rest.now c.args.at) (RecordFailed c.args.self.now c.args.bytes.now c.args.at)
+    (record_failed c.args.self.now c.in-Some.head c.args.bytes.now c.in-Some.rest.now c.args.at head.0 head.1 c.if-not-may_come.ensures.may) c.replay.ensures.fault

@@ -1,0 +1,10 @@
+pub mod Record
+pub mod Wide
+pub mod Replay
+pub mod Reading
+pub mod Schema
+pub mod Side
+pub mod Faults
+pub mod Parts
+pub mod Extents
+pub mod SideParts

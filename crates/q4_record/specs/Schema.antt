@@ -1,0 +1,58 @@
+-- The schema record of a side: the columns of its rows.
+use Rattle.std.specs.Prelude.{◌≡◌, ◌≢◌, ◌<◌, ◌+◌, ℕ, List, [], ◌∷◌, ◌++◌, length, All}
+use Rattle.std.specs.List.{flat_map}
+use Rattle.q4_value.specs.declared.column.Column.{Column}
+use Rattle.q4_value.specs.declared.column.Kind.{Kind}
+use Rattle.q4_value.specs.declared.column.Kind.TheVariants as kind
+use Rattle.q4_record.specs.declared.side.SideFault.{SideFault}
+use Rattle.q4_record.specs.declared.side.SideFault.TheVariants as fault
+
+abbrev pub kind_byte : Kind → ℕ
+kind_byte kind.Int = 1
+kind_byte kind.Words = 2
+
+-- the kind, the length of the name, and the name
+abbrev pub column_bytes : Column → List ℕ
+column_bytes column = kind_byte column.kind ∷ length column.name ∷ column.name
+
+-- 7, the number of columns, and each column
+abbrev pub schema_bytes : List Column → List ℕ
+schema_bytes columns = 7 ∷ length columns ∷ flat_map column_bytes columns
+
+-- The number of columns and the length of each name fit a byte.
+pub record IsSchema (columns : List Column) : Type 0 where
+  pub few : length columns < 256
+  pub names : All (λ column. length column.name < 256) columns
+
+-- not the same first column: one is another, or is there in one list alone
+abbrev pub DifferFirst : List Column → List Column → Type 0
+DifferFirst [] [] = ⊥
+DifferFirst [] (d ∷ ds) = Unit {0}
+DifferFirst (c ∷ cs) [] = Unit {0}
+DifferFirst (c ∷ cs) (d ∷ ds) = c ≢ d
+
+-- The columns before this one are the same, counted from 1, and this one is not.
+pub record DifferAt (columns others : List Column) (number : ℕ) : Type 0 where
+  pub same : List Column
+  pub rest : List Column
+  pub other_rest : List Column
+  pub columns_are : columns ≡ same ++ rest
+  pub others_are : others ≡ same ++ other_rest
+  pub differ : DifferFirst rest other_rest
+  pub number_is : number ≡ length same + 1
+
+-- Columns are spelled at the front that differ from the definition's.
+pub record OtherSchema (columns : List Column) (base : List ℕ) (number : ℕ) : Type 0 where
+  pub others : List Column
+  pub rest : List ℕ
+  pub is : IsSchema others
+  pub base_is : base ≡ schema_bytes others ++ rest
+  pub differ : DifferAt columns others number
+
+-- Why the base, which begins at a place, does not begin with the definition's schema: it begins with none, or with another.
+abbrev pub SchemaFails : List Column → List ℕ → ℕ → SideFault → Type 0
+SchemaFails columns base at fault.Closed = ⊥
+SchemaFails columns base at (fault.Damaged place) = (place ≡ at) × ((others : List Column) (rest : List ℕ) → IsSchema others → base ≡ schema_bytes others ++ rest → ⊥)
+SchemaFails columns base at (fault.Schema number) = OtherSchema columns base number
+SchemaFails columns base at (fault.Large limit) = ⊥
+SchemaFails columns base at fault.Memory = ⊥

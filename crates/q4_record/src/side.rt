@@ -1,0 +1,231 @@
+ghost use Rattle.std.specs.Prelude.{◌≡◌, ◌≢◌, ◌≤◌, ◌+◌, ◌∷◌, ◌++◌, ◌⊎◌, ℕ, List, Ok, Err, length, codes, IfOk, IfErr, OnOk, IfSome, IfNone};
+ghost use Rattle.std.specs.Bool.{OnTrue, OnFalse};
+ghost use Rattle.std.specs.Int.{w32, to_be_bytes};
+ghost use Rattle.q4_table.specs.TableState.{TableState};
+ghost use Rattle.q4_table.specs.Valid.{IsColumns};
+ghost use Rattle.q4_record.specs.declared.side.SideFault.{SideFault as Fault};
+ghost use Rattle.q4_record.specs.Schema.{IsSchema};
+ghost use Rattle.q4_record.specs.Replay.{at_batches};
+ghost use Rattle.q4_record.specs.Side.{side_limit, generation_of, told_at, magic_of, base_of, behind_base, Begins, IsBase, Side};
+ghost use Rattle.q4_record.specs.Faults.{EndsInBatch, SideFails};
+ghost use Rattle.q4_record.specs.Parts.{IsReady};
+ghost use Rattle.q4_record.specs.SideParts.{HeaderFailed, BaseFailed, BatchesRead, BatchesFailed};
+
+use crate::fields::{take_length, take_number};
+use crate::replay::{Replay, Stage};
+use crate::schema::read_schema;
+use q4_table::Table;
+use q4_value::Columns;
+use std::alloc::Global;
+
+// The most bytes of a side.
+const SIDE_LIMIT: usize = 536_870_912;
+
+// The greatest generation.
+const GENERATION_LIMIT: u64 = 1 << 62;
+
+// Where the base begins.
+const BASE_AT: usize = 21;
+
+/// Why the bytes of a side stand for no table. Places are counted from 0 in the side's bytes.
+#[derive(Clone, Copy, Debug, PartialEq, Eq)]
+pub enum SideFault {
+    /// The gate, the first byte, is not 1, or there are fewer than 21 bytes.
+    Closed,
+    /// The part that begins at this place is no part of a side: the header at 0, a record, a batch at its gate, or,
+    /// at the end of the base, its next record.
+    Damaged(u64),
+    /// The schema is another than that of the columns, at this column first, counted from 1, or behind the last one.
+    Schema(u32),
+    /// A limit is passed: 1 more than 250,000 rows, 2 more than 33,554,432 bytes of rows, 3 a next number over 2^62,
+    /// 4 a text of more than 65,535 bytes, 5 a row of more than 1,048,576 bytes, 6 a side of more than 536,870,912
+    /// bytes, 7 a generation over 2^62, 8 no room for the end of each row within the bytes of a side.
+    Large(u32),
+    /// Memory was wanted and could not be had.
+    Memory,
+}
+
+/// What stands before a side's base, the base, and what is behind it.
+#[derive(Drop)]
+struct Header<'a> {
+    generation: u64,
+    base: &'a [u8],
+    behind: &'a [u8],
+}
+
+/// Reads a side: the table of these columns that its records lead to, which nobody owns a row of, its generation, and
+/// the length up to and with the closing gate. The bytes behind that gate are ignored.
+pub fn read_side(
+    alloc: Global,
+    bytes: &[u8],
+    columns: Columns,
+) -> Result<(Table, u64, u64), SideFault>
+    requires columns { IsColumns columns }
+    requires schema { IsSchema columns }
+
+    // What is read is a side.
+    ensures side { IfOk result (λ found. Side columns bytes.now found.0 found.1 found.2) }
+    // A side is read, unless memory runs out.
+    ensures read { (table : TableState) (generation len : ℕ) → Side columns bytes.now table generation len
+        → (result ≡ Ok (table, generation, len)) ⊎ (result ≡ Err SideFault.Memory) }
+    // Else the first part from the front that does not stand is told.
+    ensures fault { IfErr result (SideFails columns bytes.now) }
+    // Where bytes are no side that is told, unless memory runs out.
+    ensures told { (why : Fault) → SideFails columns bytes.now why → (result ≡ Err why) ⊎ (result ≡ Err SideFault.Memory) ⊎ (why ≡ SideFault.Memory) }
+{
+    read_parts(alloc, bytes, columns)
+}
+
+// The same, part by part.
+fn read_parts(
+    alloc: Global,
+    bytes: &[u8],
+    columns: Columns,
+) -> Result<(Table, u64, u64), SideFault>
+    requires columns { IsColumns columns }
+    requires schema { IsSchema columns }
+    ensures side { IfOk result (λ found. Side columns bytes.now found.0 found.1 found.2) }
+    ensures fault { IfErr result (SideFails columns bytes.now) }
+{
+    let header = read_header(bytes)?;
+    let table = read_base(alloc, header.base, columns)?;
+    let at = BASE_AT + header.base.len();
+    let (table, len) = read_batches(alloc, table, header.behind, at)?;
+    if len + 32 * u64::from(table.count()) > SIDE_LIMIT as u64 {
+        return Err(SideFault::Large(8));
+    }
+    Ok((table, header.generation, len))
+}
+
+// The header, the base and what is behind it. At least the closing gate is.
+fn read_header(bytes: &[u8]) -> Result<Header<'_>, SideFault>
+    ensures begins { OnOk result (Begins bytes.now) }
+    ensures parts { IfOk result (λ header. (header.generation ≡ generation_of bytes.now)
+        × (header.base.now ≡ base_of bytes.now) × (header.behind.now ≡ behind_base bytes.now)) }
+    ensures fault { IfErr result (HeaderFailed bytes.now) }
+{
+    if bytes.len() < BASE_AT || bytes[0] != 1 {
+        return Err(SideFault::Closed);
+    }
+    if bytes.len() > SIDE_LIMIT {
+        return Err(SideFault::Large(6));
+    }
+    let generation = number_at(bytes, 5);
+    let len = number_at(bytes, 13);
+    let (_, parts) = bytes.split_at(BASE_AT);
+    if !has_magic(bytes) || generation == 0 || len >= parts.len() as u64 {
+        return Err(SideFault::Damaged(0));
+    }
+    if generation > GENERATION_LIMIT {
+        return Err(SideFault::Large(7));
+    }
+    let (base, behind) = parts.split_at(len as usize);
+    Ok(Header {
+        generation,
+        base,
+        behind,
+    })
+}
+
+// Whether the magic stands behind the gate.
+fn has_magic(bytes: &[u8]) -> bool
+    requires { 5 ≤ length bytes.now }
+    ensures has { OnTrue result (magic_of bytes.now ≡ codes "Q4O1") }
+    ensures has_not { OnFalse result (magic_of bytes.now ≢ codes "Q4O1") }
+{
+    let (_, behind) = bytes.split_at(1);
+    let (magic, _) = behind.split_at(4);
+    magic == b"Q4O1".as_slice()
+}
+
+// The number of 64 bits at this place.
+#[tactic(auto, unfolding(crate::specs::Side::told_at))]
+fn number_at(bytes: &[u8], at: usize) -> u64
+    requires { at + 8 ≤ length bytes.now }
+    ensures { result ≡ told_at at bytes.now }
+{
+    let (_, rest) = bytes.split_at(at);
+    let (front, _) = rest.split_at(8);
+    u64::from_be_bytes([
+        front[0], front[1], front[2], front[3], front[4], front[5], front[6], front[7],
+    ])
+}
+
+// The table that a base leads to.
+fn read_base(alloc: Global, base: &[u8], columns: Columns) -> Result<Table, SideFault>
+    requires columns { IsColumns columns }
+    requires schema { IsSchema columns }
+    requires few { length base.now ≤ side_limit }
+    ensures base { IfOk result (λ table. IsBase columns base.now table) }
+    ensures ready { IfOk result (λ table. IsReady (at_batches table)) }
+    ensures fault { IfErr result (BaseFailed columns base.now) }
+{
+    let at = BASE_AT as u64;
+    let records = read_schema(columns.as_slice(), base, at)?;
+    let begin = at + (base.len() - records.len()) as u64;
+    let mut replay = Replay {
+        stage: Stage::Rows,
+        table: Table::new(alloc, columns),
+    };
+    replay.read_section(alloc, records, begin)?;
+    match replay.stage {
+        Stage::Whole => Ok(replay.table),
+        Stage::Rows | Stage::Marks(_) | Stage::Batch => {
+            Err(SideFault::Damaged(at + base.len() as u64))
+        }
+    }
+}
+
+// The table that the batches behind a base lead to, and the length of the side. They begin at this place.
+fn read_batches(
+    alloc: Global,
+    table: Table,
+    bytes: &[u8],
+    at: usize,
+) -> Result<(Table, u64), SideFault>
+    requires ready { IsReady (at_batches table) }
+    requires few { at + length bytes.now ≤ side_limit }
+    requires gate { 1 ≤ length bytes.now }
+    ensures read { IfOk result (λ found. BatchesRead table bytes.now at found.0 found.1) }
+    ensures fault { IfErr result (BatchesFailed table bytes.now at) }
+{
+    let mut replay = Replay {
+        stage: Stage::Batch,
+        table,
+    };
+    let mut rest = bytes;
+    while let Some(more) = behind_gate(rest) {
+        let place = (at + (bytes.len() - rest.len())) as u64;
+        let Some((records, after)) = split_batch(more) else {
+            return Err(SideFault::Damaged(place));
+        };
+        replay.read_section(alloc, records, place + 5)?;
+        rest = after;
+    }
+    let len = at + (bytes.len() - rest.len()) + 1;
+    Ok((replay.table, len as u64))
+}
+
+// What is behind the gate at the front, if it is open.
+fn behind_gate(bytes: &[u8]) -> Option<&[u8]>
+    ensures is_open { IfSome result (λ more. bytes.now ≡ 1 ∷ more.now) }
+    ensures closed { IfNone result ((more : List ℕ) → bytes.now ≡ 1 ∷ more → ⊥) }
+{
+    match bytes {
+        [1, more @ ..] => Some(more),
+        _ => None,
+    }
+}
+
+// A batch's records, and what is behind them, which is at least one byte.
+fn split_batch(bytes: &[u8]) -> Option<(&[u8], &[u8])>
+    ensures read { IfSome result (λ found. bytes.now ≡ to_be_bytes w32 (length found.0.now) ++ found.0.now ++ found.1.now) }
+    ensures more { IfSome result (λ found. 1 ≤ length found.1.now) }
+    ensures ends { IfNone result (EndsInBatch bytes.now) }
+{
+    let (len, rest) = take_length(bytes)?;
+    if rest.len() <= len {
+        return None;
+    }
+    Some(rest.split_at(len))
+}
