@@ -22,10 +22,7 @@ pub(crate) enum Undefined {
 }
 
 /// The definitions that all bytes of the source are.
-pub(crate) fn read_definitions<F: Source>(
-    alloc: Global,
-    source: &mut F,
-) -> Result<Defs, Undefined>
+pub(crate) fn read_definitions<F: Source>(alloc: Global, source: &mut F) -> Result<Defs, Undefined>
     ensures comes { Comes (F.left source.old) (F.left source.new) (IsTrue (F.ended source.new)) (Rose (F.faults source.old) (F.faults source.new)) result }
     ensures later { F.faults source.old ≤ F.faults source.new }
     ensures stayed { (F.faults source.new ≡ F.faults source.old) ⊎ (result ≡ Err undefined.ReadFault) }
