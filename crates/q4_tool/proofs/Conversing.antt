@@ -8,6 +8,7 @@ use Rattle.q4_flow.specs.Flow.{Rose, Gave, Took, IsFront, TookFront}
 use Rattle.q4_flow.specs.Lines.{Cuts, Takes, Next, NextFrom, IsOneLine, IsOpenLine, line_limit}
 use Rattle.q4_flow.specs.Reading.{Reading}
 use Rattle.q4_flow.proofs.Known.{gave_nothing, gave_more, took_nothing, took_more}
+use Rattle.q4_def.specs.declared.table_def.TableDef.{TableDef}
 use Rattle.q4_machine.specs.declared.entry.Entry.{Entry}
 use Rattle.q4_machine.specs.declared.desk.DeskFault.TheVariants as fault
 use Rattle.q4_machine.specs.Parts.{Grows, IsOpened}
@@ -23,18 +24,18 @@ use Rattle.q4_tool.specs.Sessions.{InputEnds, last_words, WroteFront, ReplyCut, 
 use Rattle.q4_tool.specs.Answering.{Told, Answering, TellCause, LastReply, LastCause}
 
 -- The lines so far, none of them `bye`, and the bytes that are pending.
-pub record Conversing (caller session : ℕ) (seen seen' : List Entry) (left left' : Option (List ℕ)) (pending : List ℕ) (written written' : Option (List ℕ)) : Type 0 where
+pub record Conversing (defs : List TableDef) (caller session : ℕ) (seen seen' : List Entry) (left left' : Option (List ℕ)) (pending : List ℕ) (written written' : Option (List ℕ)) : Type 0 where
   pub exchanges : List Exchange
   pub lines : All (λ e. IsOpenLine e.line) exchanges
-  pub answered : AreExchanges caller session seen exchanges
+  pub answered : AreExchanges defs caller session seen exchanges
   pub history : seen' ≡ seen ++ grown_by exchanges
   pub read : Gave left left' (lines_of exchanges ++ pending)
   pub goes_on : GoesOn exchanges
   pub wrote : Took written written' (texts_of exchanges)
 
 -- no line yet
-pub no_line : (caller session : ℕ) (seen : List Entry) (left written : Option (List ℕ)) → Conversing caller session seen seen left left [] written written
-no_line caller session seen left written = record {
+pub no_line : (defs : List TableDef) (caller session : ℕ) (seen : List Entry) (left written : Option (List ℕ)) → Conversing defs caller session seen seen left left [] written written
+no_line defs caller session seen left written = record {
   exchanges = [];
   lines = All-nil (λ (e : Exchange). IsOpenLine e.line);
   answered = tt;
@@ -48,19 +49,19 @@ flat_map_push : {X Y : Type 0} (f : X → List Y) (xs : List X) (x : X) → flat
 flat_map_push f [] x = append-nil (f x)
 flat_map_push f (y ∷ ys) x = ap (λ zs. f y ++ zs) (flat_map_push f ys x) ∙ sym (append_assoc (f y) (flat_map f ys) (f x))
 
-exchanges_push : (caller session : ℕ) (seen : List Entry) (exchanges : List Exchange) (e : Exchange) → AreExchanges caller session seen exchanges → IsExchange caller session (seen ++ grown_by exchanges) e → AreExchanges caller session seen (exchanges ++ e ∷ [])
-exchanges_push caller session seen [] e are next = (subst (λ h. IsExchange caller session h e) (append-nil seen) next, tt)
-exchanges_push caller session seen (x ∷ xs) e are next =
-    (are.0, exchanges_push caller session (seen ++ x.grown) xs e are.1 (subst (λ h. IsExchange caller session h e) (sym (append_assoc seen x.grown (grown_by xs))) next))
+exchanges_push : (defs : List TableDef) (caller session : ℕ) (seen : List Entry) (exchanges : List Exchange) (e : Exchange) → AreExchanges defs caller session seen exchanges → IsExchange defs caller session (seen ++ grown_by exchanges) e → AreExchanges defs caller session seen (exchanges ++ e ∷ [])
+exchanges_push defs caller session seen [] e are next = (subst (λ h. IsExchange defs caller session h e) (append-nil seen) next, tt)
+exchanges_push defs caller session seen (x ∷ xs) e are next =
+    (are.0, exchanges_push defs caller session (seen ++ x.grown) xs e are.1 (subst (λ h. IsExchange defs caller session h e) (sym (append_assoc seen x.grown (grown_by xs))) next))
 
 -- what a call of `next` took, where nothing had stopped
 pub takes_of : (old new : Reading) (left left' : Option (List ℕ)) (ended : Type 0) (how : LineEnd) → Next old new left left' ended how → old.stopped ≡ None → Takes left left' (λ taken. Cuts (old.pending ++ taken) ended new how)
 takes_of old new left left' ended how next going = subst (λ o. NextFrom o old new left left' ended how) going next
 
 -- One more line, whatever it was answered.
-pub record Pushed (caller session : ℕ) (seen seen' : List Entry) (left left' : Option (List ℕ)) (pending : List ℕ) (exchanges : List Exchange) : Type 0 where
+pub record Pushed (defs : List TableDef) (caller session : ℕ) (seen seen' : List Entry) (left left' : Option (List ℕ)) (pending : List ℕ) (exchanges : List Exchange) : Type 0 where
   pub lines : All (λ e. IsOpenLine e.line) exchanges
-  pub answered : AreExchanges caller session seen exchanges
+  pub answered : AreExchanges defs caller session seen exchanges
   pub history : seen' ≡ seen ++ grown_by exchanges
   pub read : Gave left left' (lines_of exchanges ++ pending)
 
@@ -68,14 +69,14 @@ line_moves : (lines pending taken line rest : List ℕ) → pending ++ taken ≡
 line_moves lines pending taken line rest is =
     append_assoc lines pending taken ∙ ap (λ xs. lines ++ xs) (is ∙ sym (append_assoc line (10 ∷ []) rest)) ∙ sym (append_assoc lines (line ++ 10 ∷ []) rest)
 
-pushed : (caller session : ℕ) (seen seen1 seen2 : List Entry) (left left1 left2 : Option (List ℕ)) (pending rest : List ℕ) (written written1 : Option (List ℕ)) (taken : List ℕ) (e : Exchange)
-    → (so_far : Conversing caller session seen seen1 left left1 pending written written1) → Gave left1 left2 taken → pending ++ taken ≡ e.line ++ 10 ∷ rest → IsOpenLine e.line
-    → seen2 ≡ seen1 ++ e.grown → IsExchange caller session seen1 e → Pushed caller session seen seen2 left left2 rest (so_far.exchanges ++ e ∷ [])
-pushed caller session seen seen1 seen2 left left1 left2 pending rest written written1 taken e so_far gave cut open_line grew next =
+pushed : (defs : List TableDef) (caller session : ℕ) (seen seen1 seen2 : List Entry) (left left1 left2 : Option (List ℕ)) (pending rest : List ℕ) (written written1 : Option (List ℕ)) (taken : List ℕ) (e : Exchange)
+    → (so_far : Conversing defs caller session seen seen1 left left1 pending written written1) → Gave left1 left2 taken → pending ++ taken ≡ e.line ++ 10 ∷ rest → IsOpenLine e.line
+    → seen2 ≡ seen1 ++ e.grown → IsExchange defs caller session seen1 e → Pushed defs caller session seen seen2 left left2 rest (so_far.exchanges ++ e ∷ [])
+pushed defs caller session seen seen1 seen2 left left1 left2 pending rest written written1 taken e so_far gave cut open_line grew next =
     let xs = so_far.exchanges in
     record {
       lines = All-push (λ (x : Exchange). IsOpenLine x.line) xs e so_far.lines open_line;
-      answered = exchanges_push caller session seen xs e so_far.answered (subst (λ h. IsExchange caller session h e) so_far.history next);
+      answered = exchanges_push defs caller session seen xs e so_far.answered (subst (λ h. IsExchange defs caller session h e) so_far.history next);
       history = grew ∙ ap (λ h. h ++ e.grown) so_far.history ∙ append_assoc seen (grown_by xs) e.grown ∙ ap (λ h. seen ++ h) (sym (flat_map_push (λ (x : Exchange). x.grown) xs e));
       read = subst (Gave left left2) (line_moves (lines_of xs) pending taken e.line rest cut ∙ ap (λ bytes. bytes ++ rest) (sym (flat_map_push (λ (x : Exchange). x.line ++ 10 ∷ []) xs e))) (gave_more left left1 left2 (lines_of xs ++ pending) taken so_far.read gave);
     }
@@ -84,12 +85,12 @@ texts_push : (exchanges : List Exchange) (e : Exchange) → texts_of (exchanges 
 texts_push exchanges e = flat_map_push (λ (x : Exchange). text x.outcome) exchanges e
 
 -- a line after which the session goes on
-pub goes_on_more : (caller session : ℕ) (seen seen1 seen2 : List Entry) (left left1 left2 : Option (List ℕ)) (pending rest : List ℕ) (written written1 written2 : Option (List ℕ)) (taken line : List ℕ)
-    → (so_far : Conversing caller session seen seen1 left left1 pending written written1) → Gave left1 left2 taken → pending ++ taken ≡ line ++ 10 ∷ rest → IsOpenLine line
-    → Answering caller session seen1 seen2 line written1 written2 answered.Next → Conversing caller session seen seen2 left left2 rest written written2
-goes_on_more caller session seen seen1 seen2 left left1 left2 pending rest written written1 written2 taken line so_far gave cut open_line answering =
+pub goes_on_more : (defs : List TableDef) (caller session : ℕ) (seen seen1 seen2 : List Entry) (left left1 left2 : Option (List ℕ)) (pending rest : List ℕ) (written written1 written2 : Option (List ℕ)) (taken line : List ℕ)
+    → (so_far : Conversing defs caller session seen seen1 left left1 pending written written1) → Gave left1 left2 taken → pending ++ taken ≡ line ++ 10 ∷ rest → IsOpenLine line
+    → Answering defs caller session seen1 seen2 line written1 written2 answered.Next → Conversing defs caller session seen seen2 left left2 rest written written2
+goes_on_more defs caller session seen seen1 seen2 left left1 left2 pending rest written written1 written2 taken line so_far gave cut open_line answering =
     let e : Exchange = record { line = line; grown = answering.grown; outcome = answering.out } in
-    let more = pushed caller session seen seen1 seen2 left left1 left2 pending rest written written1 taken e so_far gave cut open_line answering.history answering.exchange in
+    let more = pushed defs caller session seen seen1 seen2 left left1 left2 pending rest written written1 taken e so_far gave cut open_line answering.history answering.exchange in
     record {
       exchanges = so_far.exchanges ++ e ∷ [];
       lines = more.lines;
@@ -101,12 +102,12 @@ goes_on_more caller session seen seen1 seen2 left left1 left2 pending rest writt
     }
 
 -- a line that was answered `bye`
-pub ends_by_quit : (caller session : ℕ) (seen seen1 seen2 : List Entry) (left left1 left2 : Option (List ℕ)) (ended : Type 0) (pending rest : List ℕ) (written written1 written2 : Option (List ℕ)) (taken line : List ℕ)
-    → (so_far : Conversing caller session seen seen1 left left1 pending written written1) → Gave left1 left2 taken → pending ++ taken ≡ line ++ 10 ∷ rest → IsOpenLine line
-    → Answering caller session seen1 seen2 line written1 written2 answered.Quit → Conversation caller session seen seen2 left left2 ended written written2 end.Quit
-ends_by_quit caller session seen seen1 seen2 left left1 left2 ended pending rest written written1 written2 taken line so_far gave cut open_line answering =
+pub ends_by_quit : (defs : List TableDef) (caller session : ℕ) (seen seen1 seen2 : List Entry) (left left1 left2 : Option (List ℕ)) (ended : Type 0) (pending rest : List ℕ) (written written1 written2 : Option (List ℕ)) (taken line : List ℕ)
+    → (so_far : Conversing defs caller session seen seen1 left left1 pending written written1) → Gave left1 left2 taken → pending ++ taken ≡ line ++ 10 ∷ rest → IsOpenLine line
+    → Answering defs caller session seen1 seen2 line written1 written2 answered.Quit → Conversation defs caller session seen seen2 left left2 ended written written2 end.Quit
+ends_by_quit defs caller session seen seen1 seen2 left left1 left2 ended pending rest written written1 written2 taken line so_far gave cut open_line answering =
     let e : Exchange = record { line = line; grown = answering.grown; outcome = answering.out } in
-    let more = pushed caller session seen seen1 seen2 left left1 left2 pending rest written written1 taken e so_far gave cut open_line answering.history answering.exchange in
+    let more = pushed defs caller session seen seen1 seen2 left left1 left2 pending rest written written1 taken e so_far gave cut open_line answering.history answering.exchange in
     record {
       exchanges = so_far.exchanges ++ e ∷ [];
       rest = rest;
@@ -121,12 +122,12 @@ wrote_front : (a b c : Option (List ℕ)) (texts words : List ℕ) → Took a b 
 wrote_front a b c texts words took front = record { front = front.front; is_front = front.is_front; took = took_more a b c texts front.front took front.took }
 
 -- a line at whose reply the sink failed
-pub ends_by_fault : (caller session : ℕ) (seen seen1 seen2 : List Entry) (left left1 left2 : Option (List ℕ)) (ended : Type 0) (pending rest : List ℕ) (written written1 written2 : Option (List ℕ)) (taken line : List ℕ)
-    → (so_far : Conversing caller session seen seen1 left left1 pending written written1) → Gave left1 left2 taken → pending ++ taken ≡ line ++ 10 ∷ rest → IsOpenLine line
-    → Answering caller session seen1 seen2 line written1 written2 answered.WriteFault → Conversation caller session seen seen2 left left2 ended written written2 end.WriteFault
-ends_by_fault caller session seen seen1 seen2 left left1 left2 ended pending rest written written1 written2 taken line so_far gave cut open_line answering =
+pub ends_by_fault : (defs : List TableDef) (caller session : ℕ) (seen seen1 seen2 : List Entry) (left left1 left2 : Option (List ℕ)) (ended : Type 0) (pending rest : List ℕ) (written written1 written2 : Option (List ℕ)) (taken line : List ℕ)
+    → (so_far : Conversing defs caller session seen seen1 left left1 pending written written1) → Gave left1 left2 taken → pending ++ taken ≡ line ++ 10 ∷ rest → IsOpenLine line
+    → Answering defs caller session seen1 seen2 line written1 written2 answered.WriteFault → Conversation defs caller session seen seen2 left left2 ended written written2 end.WriteFault
+ends_by_fault defs caller session seen seen1 seen2 left left1 left2 ended pending rest written written1 written2 taken line so_far gave cut open_line answering =
     let e : Exchange = record { line = line; grown = answering.grown; outcome = answering.out } in
-    let more = pushed caller session seen seen1 seen2 left left1 left2 pending rest written written1 taken e so_far gave cut open_line answering.history answering.exchange in
+    let more = pushed defs caller session seen seen1 seen2 left left1 left2 pending rest written written1 taken e so_far gave cut open_line answering.history answering.exchange in
     record {
       exchanges = so_far.exchanges ++ e ∷ [];
       rest = rest;
@@ -150,10 +151,10 @@ concludes_took end.Memory old new exchanges rest ended ends took = (ends, took)
 concludes_took end.WriteFault old new exchanges rest ended ends took = absurd ends
 
 -- the input ended, and nothing more was owed
-pub ends_silently : (caller session : ℕ) (seen seen1 : List Entry) (left left1 left2 : Option (List ℕ)) (ended : Type 0) (pending : List ℕ) (written written1 : Option (List ℕ)) (taken : List ℕ) (how : SessionEnd)
-    → (so_far : Conversing caller session seen seen1 left left1 pending written written1) → Gave left1 left2 taken → InputEnds how so_far.exchanges (pending ++ taken) ended → last_words how ≡ []
-    → Conversation caller session seen seen1 left left2 ended written written1 how
-ends_silently caller session seen seen1 left left1 left2 ended pending written written1 taken how so_far gave ends silent = record {
+pub ends_silently : (defs : List TableDef) (caller session : ℕ) (seen seen1 : List Entry) (left left1 left2 : Option (List ℕ)) (ended : Type 0) (pending : List ℕ) (written written1 : Option (List ℕ)) (taken : List ℕ) (how : SessionEnd)
+    → (so_far : Conversing defs caller session seen seen1 left left1 pending written written1) → Gave left1 left2 taken → InputEnds how so_far.exchanges (pending ++ taken) ended → last_words how ≡ []
+    → Conversation defs caller session seen seen1 left left2 ended written written1 how
+ends_silently defs caller session seen seen1 left left1 left2 ended pending written written1 taken how so_far gave ends silent = record {
   exchanges = so_far.exchanges;
   rest = pending ++ taken;
   lines = so_far.lines;
@@ -163,11 +164,11 @@ ends_silently caller session seen seen1 left left1 left2 ended pending written w
   concludes = concludes_took how written written1 so_far.exchanges (pending ++ taken) ended ends (subst (Took written written1) (sym (ap (λ words. texts_of so_far.exchanges ++ words) silent ∙ append-nil (texts_of so_far.exchanges))) so_far.wrote);
 }
 
-last_cut : (caller session : ℕ) (seen seen1 : List Entry) (left left1 left2 : Option (List ℕ)) (ended : Type 0) (pending : List ℕ) (written written1 written2 : Option (List ℕ)) (taken : List ℕ) (how result : SessionEnd)
-    → (so_far : Conversing caller session seen seen1 left left1 pending written written1) → Gave left1 left2 taken → InputEnds how so_far.exchanges (pending ++ taken) ended → last_words how ≢ []
-    → (result ≡ end.WriteFault) × TookFront written1 written2 (last_words how) → Conversation caller session seen seen1 left left2 ended written written2 result
-last_cut caller session seen seen1 left left1 left2 ended pending written written1 written2 taken how result so_far gave ends owed cut =
-    subst (λ r. Conversation caller session seen seen1 left left2 ended written written2 r) (sym cut.0) (record {
+last_cut : (defs : List TableDef) (caller session : ℕ) (seen seen1 : List Entry) (left left1 left2 : Option (List ℕ)) (ended : Type 0) (pending : List ℕ) (written written1 written2 : Option (List ℕ)) (taken : List ℕ) (how result : SessionEnd)
+    → (so_far : Conversing defs caller session seen seen1 left left1 pending written written1) → Gave left1 left2 taken → InputEnds how so_far.exchanges (pending ++ taken) ended → last_words how ≢ []
+    → (result ≡ end.WriteFault) × TookFront written1 written2 (last_words how) → Conversation defs caller session seen seen1 left left2 ended written written2 result
+last_cut defs caller session seen seen1 left left1 left2 ended pending written written1 written2 taken how result so_far gave ends owed cut =
+    subst (λ r. Conversation defs caller session seen seen1 left left2 ended written written2 r) (sym cut.0) (record {
       exchanges = so_far.exchanges;
       rest = pending ++ taken;
       lines = so_far.lines;
@@ -178,11 +179,11 @@ last_cut caller session seen seen1 left left1 left2 ended pending written writte
     })
 
 -- the input ended, and the last words were written, or a front of them
-pub ends_by_words : (caller session : ℕ) (seen seen1 : List Entry) (left left1 left2 : Option (List ℕ)) (ended : Type 0) (pending : List ℕ) (written written1 written2 : Option (List ℕ)) (taken : List ℕ) (how result : SessionEnd)
-    → (so_far : Conversing caller session seen seen1 left left1 pending written written1) → Gave left1 left2 taken → InputEnds how so_far.exchanges (pending ++ taken) ended → last_words how ≢ []
-    → LastReply written1 written2 (last_words how) how result → Conversation caller session seen seen1 left left2 ended written written2 result
-ends_by_words caller session seen seen1 left left1 left2 ended pending written written1 written2 taken how result so_far gave ends owed (inl wrote) =
-    subst (λ r. Conversation caller session seen seen1 left left2 ended written written2 r) (sym wrote.0) (record {
+pub ends_by_words : (defs : List TableDef) (caller session : ℕ) (seen seen1 : List Entry) (left left1 left2 : Option (List ℕ)) (ended : Type 0) (pending : List ℕ) (written written1 written2 : Option (List ℕ)) (taken : List ℕ) (how result : SessionEnd)
+    → (so_far : Conversing defs caller session seen seen1 left left1 pending written written1) → Gave left1 left2 taken → InputEnds how so_far.exchanges (pending ++ taken) ended → last_words how ≢ []
+    → LastReply written1 written2 (last_words how) how result → Conversation defs caller session seen seen1 left left2 ended written written2 result
+ends_by_words defs caller session seen seen1 left left1 left2 ended pending written written1 written2 taken how result so_far gave ends owed (inl wrote) =
+    subst (λ r. Conversation defs caller session seen seen1 left left2 ended written written2 r) (sym wrote.0) (record {
       exchanges = so_far.exchanges;
       rest = pending ++ taken;
       lines = so_far.lines;
@@ -191,8 +192,8 @@ ends_by_words caller session seen seen1 left left1 left2 ended pending written w
       read = read_more left left1 left2 (lines_of so_far.exchanges) pending taken so_far.read gave;
       concludes = concludes_took how written written2 so_far.exchanges (pending ++ taken) ended ends (took_more written written1 written2 (texts_of so_far.exchanges) (last_words how) so_far.wrote wrote.1);
     })
-ends_by_words caller session seen seen1 left left1 left2 ended pending written written1 written2 taken how result so_far gave ends owed (inr cut) =
-    last_cut caller session seen seen1 left left1 left2 ended pending written written1 written2 taken how result so_far gave ends owed cut
+ends_by_words defs caller session seen seen1 left left1 left2 ended pending written written1 written2 taken how result so_far gave ends owed (inr cut) =
+    last_cut defs caller session seen seen1 left left1 left2 ended pending written written1 written2 taken how result so_far gave ends owed cut
 
 -- ## Causes
 
@@ -227,9 +228,10 @@ not_opened caller seen seen' left written written' result grows reply = record {
   wrote = refused_words written written' result reply;
 }
 
--- the caller of a desk doesn't change
-pub answering_as : (a b s : ℕ) (seen seen' : List Entry) (line : List ℕ) (written written' : Option (List ℕ)) (how : Answered) → a ≡ b → Answering a s seen seen' line written written' how → Answering b s seen seen' line written written' how
-answering_as a b s seen seen' line written written' how same answering = subst (λ k. Answering k s seen seen' line written written' how) same answering
+-- the definitions and the caller of a desk don't change
+pub answering_as : (d e : List TableDef) (a b s : ℕ) (seen seen' : List Entry) (line : List ℕ) (written written' : Option (List ℕ)) (how : Answered) → d ≡ e → a ≡ b → Answering d a s seen seen' line written written' how → Answering e b s seen seen' line written written' how
+answering_as d e a b s seen seen' line written written' how defined same answering =
+    subst (λ k. Answering e k s seen seen' line written written' how) same (subst (λ ds. Answering ds a s seen seen' line written written' how) defined answering)
 
 -- the line that the reader holds
 pub cut_as : (bytes line line' pending : List ℕ) → line' ≡ line → bytes ≡ line ++ 10 ∷ pending → bytes ≡ line' ++ 10 ∷ pending

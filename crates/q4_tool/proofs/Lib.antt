@@ -1,1 +1,3 @@
 pub mod Conversing
+pub mod Commanding
+pub mod Running

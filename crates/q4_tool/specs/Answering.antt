@@ -1,6 +1,7 @@
 -- What the answer to one line wrote.
 use Rattle.std.specs.Prelude.{◌≡◌, ◌≢◌, ◌≤◌, ◌++◌, ◌⊎◌, ℕ, List, Option}
 use Rattle.q4_flow.specs.Flow.{Rose, Took, TookFront}
+use Rattle.q4_def.specs.declared.table_def.TableDef.{TableDef}
 use Rattle.q4_machine.specs.declared.entry.Entry.{Entry}
 use Rattle.q4_proto.specs.declared.reply.Outcome.{Outcome}
 use Rattle.q4_proto.specs.declared.reply.Outcome.TheVariants as outcome
@@ -18,11 +19,11 @@ Told old new out answered.Quit = Took old new (text out) × (out ≡ outcome.Bye
 Told old new out answered.WriteFault = TookFront old new (text out)
 
 -- One line: what the history grew by, the outcome, and what was written.
-pub record Answering (caller session : ℕ) (seen seen' : List Entry) (line : List ℕ) (written written' : Option (List ℕ)) (how : Answered) : Type 0 where
+pub record Answering (defs : List TableDef) (caller session : ℕ) (seen seen' : List Entry) (line : List ℕ) (written written' : Option (List ℕ)) (how : Answered) : Type 0 where
   pub grown : List Entry
   pub out : Outcome
   pub history : seen' ≡ seen ++ grown
-  pub exchange : IsExchange caller session seen (record { line = line; grown = grown; outcome = out })
+  pub exchange : IsExchange defs caller session seen (record { line = line; grown = grown; outcome = out })
   pub told : Told written written' out how
 
 -- A write fault comes only where the sink's count rose, and wherever it is greater.

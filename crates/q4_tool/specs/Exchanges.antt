@@ -1,6 +1,7 @@
 -- The lines of a session: how each was read, what it added to the history, and what it was answered.
 use Rattle.std.specs.Prelude.{◌≡◌, ◌≢◌, ◌++◌, ◌∷◌, [], ℕ, List, Option, Some, None, Result, Ok, Err, All}
 use Rattle.std.specs.List.{flat_map}
+use Rattle.q4_def.specs.declared.table_def.TableDef.{TableDef}
 use Rattle.q4_machine.specs.declared.entry.Entry.{Entry}
 use Rattle.q4_machine.specs.declared.entry.Call.TheVariants as call
 use Rattle.q4_machine.specs.declared.entry.Reply.{Reply}
@@ -11,11 +12,11 @@ use Rattle.q4_machine.specs.Parts.{Answer, Replied, WantsMemory, IsPart}
 use Rattle.q4_proto.specs.declared.command.Command.{Command}
 use Rattle.q4_proto.specs.declared.command.Command.TheVariants.{Insert, Wait, End, Quit}
 use Rattle.q4_proto.specs.declared.command.CommandFault.{CommandFault}
-use Rattle.q4_proto.specs.declared.command.CommandFault.TheVariants.{Unknown, NotBuilt, Memory}
+use Rattle.q4_proto.specs.declared.reply.Code.{Code}
 use Rattle.q4_proto.specs.declared.reply.Outcome.{Outcome}
 use Rattle.q4_proto.specs.declared.reply.Outcome.TheVariants as outcome
 use Rattle.q4_proto.specs.Commands.{Reads}
-use Rattle.q4_proto.specs.Text.{text, code}
+use Rattle.q4_proto.specs.Text.{text, code, code_at, fault_code}
 
 -- one line, what the history grew by while it was answered, and its outcome
 pub record Exchange : Type 0 where
@@ -23,17 +24,22 @@ pub record Exchange : Type 0 where
   pub grown : List Entry
   pub outcome : Outcome
 
-abbrev pub refusal_code : Refusal → ℕ
-refusal_code refusal.NotOwner = 31
+-- the code of a refusal; that of too many bytes tells the sum of the rows that are there
+abbrev pub refusal_code : Refusal → Code
+refusal_code refusal.NotOwner = code 31
+refusal_code refusal.Spent = code 44
+refusal_code refusal.Rows = code 41
+refusal_code (refusal.Bytes sum) = code_at 42 sum
 
 -- the outcome of the reply of an entry
 abbrev pub reply_outcome : Reply → Outcome
 reply_outcome reply.Done = outcome.Ok
 reply_outcome (reply.Session number) = outcome.Number number
 reply_outcome (reply.Added number) = outcome.Number number
+reply_outcome (reply.Seen mark) = outcome.Seen mark
 reply_outcome (reply.Found place) = outcome.Number place
 reply_outcome reply.Nothing = outcome.Number 0
-reply_outcome (reply.Refused refused) = outcome.Refused (code (refusal_code refused))
+reply_outcome (reply.Refused refused) = outcome.Refused (refusal_code refused)
 
 -- the outcome of an answer of the desk
 abbrev pub answer_outcome : Answer → Outcome
@@ -42,9 +48,7 @@ answer_outcome WantsMemory = outcome.Refused (code 90)
 
 -- the outcome of a line that spells no command
 abbrev pub fault_outcome : CommandFault → Outcome
-fault_outcome Unknown = outcome.Refused (code 11)
-fault_outcome NotBuilt = outcome.Refused (code 19)
-fault_outcome Memory = outcome.Refused (code 90)
+fault_outcome fault = outcome.Refused (fault_code fault)
 
 -- What a line that was read so adds, and its outcome: a call adds its part, any other line adds nothing.
 abbrev pub Does : ℕ → ℕ → List Entry → List Entry → Outcome → Result Command CommandFault → Type 0
@@ -54,16 +58,16 @@ Does caller session before grown out (Ok End) = (answer : Answer) × IsPart befo
 Does caller session before grown out (Ok Quit) = (grown ≡ []) × (out ≡ outcome.Bye)
 Does caller session before grown out (Err fault) = (grown ≡ []) × (out ≡ fault_outcome fault)
 
--- One line was answered, behind this history.
-pub record IsExchange (caller session : ℕ) (before : List Entry) (exchange : Exchange) : Type 0 where
+-- One line was read for tables of these definitions, and answered behind this history.
+pub record IsExchange (defs : List TableDef) (caller session : ℕ) (before : List Entry) (exchange : Exchange) : Type 0 where
   pub read : Result Command CommandFault
-  pub reads : Reads exchange.line read
+  pub reads : Reads defs exchange.line read
   pub does : Does caller session before exchange.grown exchange.outcome read
 
 -- Lines were answered one after the other.
-abbrev pub AreExchanges : ℕ → ℕ → List Entry → List Exchange → Type 0
-AreExchanges caller session before [] = Unit {0}
-AreExchanges caller session before (e ∷ es) = IsExchange caller session before e × AreExchanges caller session (before ++ e.grown) es
+abbrev pub AreExchanges : List TableDef → ℕ → ℕ → List Entry → List Exchange → Type 0
+AreExchanges defs caller session before [] = Unit {0}
+AreExchanges defs caller session before (e ∷ es) = IsExchange defs caller session before e × AreExchanges defs caller session (before ++ e.grown) es
 
 -- what the history grew by, the lines with their newlines, and the texts of the outcomes, all in order
 abbrev pub grown_by : List Exchange → List Entry

@@ -2,6 +2,7 @@
 use Rattle.std.specs.Prelude.{◌≡◌, ◌≢◌, ◌≤◌, ◌<◌, ◌++◌, ◌∷◌, ◌⊎◌, [], ℕ, List, Option, Ok, All, take, length, codes}
 use Rattle.q4_flow.specs.Flow.{Rose, Gave, Took, IsFront}
 use Rattle.q4_flow.specs.Lines.{IsOneLine, IsOpenLine, line_limit}
+use Rattle.q4_def.specs.declared.table_def.TableDef.{TableDef}
 use Rattle.q4_machine.specs.declared.entry.Entry.{Entry}
 use Rattle.q4_machine.specs.Parts.{of_caller, IsOpened, IsClosed}
 use Rattle.q4_proto.specs.declared.reply.Outcome.TheVariants as outcome
@@ -61,24 +62,24 @@ Concludes TooLong old new exchanges rest ended = InputEnds TooLong exchanges res
 Concludes ReadFault old new exchanges rest ended = InputEnds ReadFault exchanges rest ended × Took old new (texts_of exchanges)
 Concludes Memory old new exchanges rest ended = InputEnds Memory exchanges rest ended × Took old new (texts_of exchanges ++ last_words Memory)
 
--- The lines of an open session, cut at each newline, and answered one after the other.
-pub record Conversation (caller session : ℕ) (seen seen' : List Entry) (left left' : Option (List ℕ)) (ended : Type 0) (written written' : Option (List ℕ)) (how : SessionEnd) : Type 0 where
+-- The lines of an open session, cut at each newline, and answered one after the other, all for tables of these definitions.
+pub record Conversation (defs : List TableDef) (caller session : ℕ) (seen seen' : List Entry) (left left' : Option (List ℕ)) (ended : Type 0) (written written' : Option (List ℕ)) (how : SessionEnd) : Type 0 where
   pub exchanges : List Exchange
   pub rest : List ℕ
   pub lines : All (λ e. IsOpenLine e.line) exchanges
-  pub answered : AreExchanges caller session seen exchanges
+  pub answered : AreExchanges defs caller session seen exchanges
   pub history : seen' ≡ seen ++ grown_by exchanges
   pub read : Gave left left' (lines_of exchanges ++ rest)
   pub concludes : Concludes how written written' exchanges rest ended
 
 -- A session that was opened: its opening, its lines and its closing.
-pub record OpenedSession (caller : ℕ) (seen seen' : List Entry) (left left' : Option (List ℕ)) (ended : Type 0) (written written' : Option (List ℕ)) (how : SessionEnd) : Type 0 where
+pub record OpenedSession (defs : List TableDef) (caller : ℕ) (seen seen' : List Entry) (left left' : Option (List ℕ)) (ended : Type 0) (written written' : Option (List ℕ)) (how : SessionEnd) : Type 0 where
   pub session : ℕ
   pub opening : List Entry
   pub before_closing : List Entry
   pub closing : List Entry
   pub opened : IsOpened caller opening (Ok session)
-  pub conversation : Conversation caller session (seen ++ opening) before_closing left left' ended written written' how
+  pub conversation : Conversation defs caller session (seen ++ opening) before_closing left left' ended written written' how
   pub closed : IsClosed caller session closing
   pub history : seen' ≡ before_closing ++ closing
 
@@ -100,9 +101,10 @@ pub record RefusedSession (caller : ℕ) (seen seen' : List Entry) (left left' :
   pub read : left' ≡ left
   pub wrote : WroteRefusal how written written'
 
-abbrev pub Session : ℕ → List Entry → List Entry → Option (List ℕ) → Option (List ℕ) → Type 0 → Option (List ℕ) → Option (List ℕ) → SessionEnd → Type 0
-Session caller seen seen' left left' ended written written' how =
-    OpenedSession caller seen seen' left left' ended written written' how ⊎ RefusedSession caller seen seen' left left' written written' how
+-- One session, whose lines were read for tables of these definitions.
+abbrev pub Session : List TableDef → ℕ → List Entry → List Entry → Option (List ℕ) → Option (List ℕ) → Type 0 → Option (List ℕ) → Option (List ℕ) → SessionEnd → Type 0
+Session defs caller seen seen' left left' ended written written' how =
+    OpenedSession defs caller seen seen' left left' ended written written' how ⊎ RefusedSession caller seen seen' left left' written written' how
 
 -- A read fault comes exactly where the source's count rose.
 pub record ReadCause (before now : ℕ) (how : SessionEnd) : Type 0 where

@@ -1,13 +1,30 @@
 -- What the program does.
-use Rattle.std.specs.Prelude.{◌≡◌, ◌++◌, ◌∷◌, ◌⊎◌, [], ℕ, List, Option, All, String, codes, string_bytes}
+use Rattle.std.specs.Prelude.{◌≡◌, ◌∷◌, ◌⊎◌, [], ℕ, List, Option, Result, Ok, Err, All, String, codes, string_bytes}
 use Rattle.std.specs.declared.alloc.Global.{Global}
 use Rattle.q4_flow.specs.Flow.{Took, TookFront}
+use Rattle.q4_def.specs.declared.table_def.TableDef.{TableDef}
 use Rattle.q4_machine.specs.declared.entry.Entry.{Entry}
 use Rattle.q4_machine.specs.History.{IsLegal, IsSettled, SyncsAreOwed}
-use Rattle.q4_machine.specs.Recorded.{opened_built_in}
+use Rattle.q4_machine.specs.Recorded.{opened_new}
+use Rattle.q4_tool.specs.declared.definitions.Undefined.{Undefined}
 use Rattle.q4_tool.specs.declared.sessions.SessionEnd.{SessionEnd}
 use Rattle.q4_tool.specs.declared.sessions.SessionEnd.TheVariants as end
 use Rattle.q4_tool.specs.Sessions.{Session}
+use Rattle.q4_tool.specs.Definitions.{Comes, undefined_line, undefined_status}
+
+-- The words are the one word `run`.
+abbrev pub AreRun : List (String Global) → Type 0
+AreRun [] = ⊥
+AreRun (word ∷ []) = string_bytes word ≡ codes "run"
+AreRun (word ∷ other ∷ rest) = ⊥
+
+-- A line was written; after a failed write the status is 7.
+abbrev pub Prints : List ℕ → ℕ → Option (List ℕ) → Option (List ℕ) → ℕ → Type 0
+Prints line status written written' result = ((result ≡ status) × Took written written' line) ⊎ ((result ≡ 7) × TookFront written written' line)
+
+-- A line was written, and nothing was read of the input.
+abbrev pub Says : List ℕ → ℕ → Option (List ℕ) → Option (List ℕ) → Option (List ℕ) → Option (List ℕ) → ℕ → Type 0
+Says line status left left' written written' result = (left' ≡ left) × Prints line status written written' result
 
 -- the status of a session's end
 abbrev pub status_of : SessionEnd → ℕ
@@ -19,30 +36,25 @@ status_of end.ReadFault = 8
 status_of end.WriteFault = 7
 status_of end.Memory = 9
 
--- One session ran from the input to the output, over the one history of a desk that begins with the empty built-in
--- table. All of it is the tool's own, by caller 0, and settled by syncs that were owed.
-pub record Ran (left left' : Option (List ℕ)) (ended : Type 0) (written written' : Option (List ℕ)) (status : ℕ) : Type 0 where
+-- One session ran from the input to the output, over the one history of a desk that begins with the empty tables of
+-- these definitions. All of it is the tool's own, by caller 0, and settled by syncs that were owed.
+pub record Ran (defs : List TableDef) (left left' : Option (List ℕ)) (ended : Type 0) (written written' : Option (List ℕ)) (status : ℕ) : Type 0 where
   pub history : List Entry
   pub legal : IsLegal history
   pub by_zero : All (λ e. e.caller ≡ 0) history
   pub settled : (place : ℕ) → IsSettled history place
   pub owed : SyncsAreOwed history
   pub how : SessionEnd
-  pub session : Session 0 (opened_built_in ∷ []) history left left' ended written written' how
+  pub session : Session defs 0 (opened_new defs ∷ []) history left left' ended written written' how
   pub status_is : status ≡ status_of how
 
--- A line was written and nothing was read; after a failed write the status is 7.
-abbrev pub Says : List ℕ → ℕ → Option (List ℕ) → Option (List ℕ) → Option (List ℕ) → Option (List ℕ) → ℕ → Type 0
-Says line status left left' written written' result =
-    (left' ≡ left) × (((result ≡ status) × Took written written' line) ⊎ ((result ≡ 7) × TookFront written written' line))
+-- What `run` does where there are these definitions, and where there are none.
+abbrev pub Runs : Result (List TableDef) Undefined → Option (List ℕ) → Option (List ℕ) → Type 0 → Option (List ℕ) → Option (List ℕ) → ℕ → Type 0
+Runs (Ok defs) left left' ended written written' status = Ran defs left left' ended written written' status
+Runs (Err why) left left' ended written written' status = Says (undefined_line why) (undefined_status why) left left' written written' status
 
--- What `run` does: the session, or a line where there was no memory for a desk.
-abbrev pub Runs : Option (List ℕ) → Option (List ℕ) → Type 0 → Option (List ℕ) → Option (List ℕ) → ℕ → Type 0
-Runs left left' ended written written' status =
-    Ran left left' ended written written' status ⊎ Says (codes "out of memory\n") 9 left left' written written' status
-
--- The words are the one word `run`.
-abbrev pub AreRun : List (String Global) → Type 0
-AreRun [] = ⊥
-AreRun (word ∷ []) = string_bytes word ≡ codes "run"
-AreRun (word ∷ other ∷ rest) = ⊥
+-- What came of the source of definitions, and what `run` did.
+pub record RunsDefined (text text' : Option (List ℕ)) (text_ended text_failed : Type 0) (left left' : Option (List ℕ)) (ended : Type 0) (written written' : Option (List ℕ)) (status : ℕ) : Type 0 where
+  pub came : Result (List TableDef) Undefined
+  pub comes : Comes text text' text_ended text_failed came
+  pub runs : Runs came left left' ended written written' status

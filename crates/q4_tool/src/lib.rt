@@ -1,6 +1,7 @@
 //! The top calls of the tool: one session over any desk, and all that `q4` does.
 #![tactic(auto)]
 
+mod definitions;
 mod program;
 mod sessions;
 

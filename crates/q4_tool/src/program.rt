@@ -1,26 +1,39 @@
 ghost use Rattle.std.specs.Prelude.{◌≡◌, ◌≢◌, ◌<◌, ◌≤◌, ◌⊎◌, ◌↔◌, IsTrue, codes};
-ghost use Rattle.q4_flow.specs.Flow.{Rose, Took, TookFront};
-ghost use Rattle.q4_tool.specs.Tool.{AreRun, Runs, Says, status_of};
+ghost use Rattle.q4_flow.specs.Flow.{Rose};
+ghost use Rattle.q4_tool.specs.declared.definitions.Undefined.TheVariants as undefined;
+ghost use Rattle.q4_tool.specs.Definitions.{undefined_line, undefined_status};
+ghost use Rattle.q4_tool.specs.Tool.{AreRun, Prints, Ran, RunsDefined, Says, status_of};
 
+use crate::definitions::{Undefined, fault_line, read_definitions};
 use crate::{SessionEnd, session};
+use q4_def::Defs;
 use q4_flow::{Sink, Source, WriteFailed};
 use q4_machine::OneDesk;
 use q4_value::NoMemory;
 use std::alloc::Global;
 
-/// All that `q4` does with these words, this input and this output. It answers the status, as
+/// What is written for want of memory.
+const OUT_OF_MEMORY: &[u8] = b"out of memory\n";
+
+/// All that `q4` does with these words, this input, this file of definitions and this output. It answers the status, as
 /// docs/PROTOCOL.md lists them.
-pub fn tool<S: Source, W: Sink>(
+pub fn tool<S: Source, F: Source, W: Sink>(
     alloc: Global,
     words: &[String],
     input: &mut S,
+    definitions: &mut F,
     output: &mut W,
 ) -> u8
-    ensures run { AreRun words.now → Runs (S.left input.old) (S.left input.new) (IsTrue (S.ended input.new)) (W.written output.old) (W.written output.new) result }
+    ensures run { AreRun words.now → RunsDefined
+        (F.left definitions.old) (F.left definitions.new) (IsTrue (F.ended definitions.new)) (Rose (F.faults definitions.old) (F.faults definitions.new))
+        (S.left input.old) (S.left input.new) (IsTrue (S.ended input.new)) (W.written output.old) (W.written output.new) result }
     ensures other { (AreRun words.now → ⊥) → Says (codes "words\n") 2 (S.left input.old) (S.left input.new) (W.written output.old) (W.written output.new) result }
-    ensures read_fault { result ≡ 8 → Rose (S.faults input.old) (S.faults input.new) }
+    ensures unread { (AreRun words.now → ⊥) → F.left definitions.new ≡ F.left definitions.old }
+    ensures read_fault { result ≡ 8 → Rose (S.faults input.old) (S.faults input.new) ⊎ Rose (F.faults definitions.old) (F.faults definitions.new) }
     ensures read_faults { S.faults input.old < S.faults input.new → result ≡ 8 }
     ensures read_later { S.faults input.old ≤ S.faults input.new }
+    ensures definitions_faults { F.faults definitions.old < F.faults definitions.new → (result ≡ 8) ⊎ (result ≡ 7) }
+    ensures definitions_later { F.faults definitions.old ≤ F.faults definitions.new }
     ensures write_fault { result ≡ 7 → Rose (W.faults output.old) (W.faults output.new) }
     ensures write_faults { W.faults output.old < W.faults output.new → result ≡ 7 }
     ensures write_later { W.faults output.old ≤ W.faults output.new }
@@ -28,24 +41,62 @@ pub fn tool<S: Source, W: Sink>(
     if !are_run(words) {
         return say(b"words\n", 2, output);
     }
-    match OneDesk::new(alloc) {
+    match read_definitions(alloc, definitions) {
+        Ok(defs) => run(alloc, defs, input, output),
+        Err(why) => refuse(alloc, why, output),
+    }
+}
+
+// One session over empty tables of these definitions.
+fn run<S: Source, W: Sink>(alloc: Global, defs: Defs, input: &mut S, output: &mut W) -> u8
+    ensures ran { Ran defs (S.left input.old) (S.left input.new) (IsTrue (S.ended input.new)) (W.written output.old) (W.written output.new) result
+        ⊎ Says (undefined_line undefined.Memory) 9 (S.left input.old) (S.left input.new) (W.written output.old) (W.written output.new) result }
+    ensures read_fault { result ≡ 8 → Rose (S.faults input.old) (S.faults input.new) }
+    ensures read_faults { S.faults input.old < S.faults input.new → result ≡ 8 }
+    ensures read_later { S.faults input.old ≤ S.faults input.new }
+    ensures write_fault { result ≡ 7 → Rose (W.faults output.old) (W.faults output.new) }
+    ensures write_faults { W.faults output.old < W.faults output.new → result ≡ 7 }
+    ensures write_later { W.faults output.old ≤ W.faults output.new }
+{
+    match OneDesk::new(alloc, defs) {
         Ok(mut desk) => {
             let end = session(alloc, &mut desk, input, output);
             let _history = desk.history();
             status(end)
         }
-        Err(NoMemory) => say(b"out of memory\n", 9, output),
+        Err(NoMemory) => say(OUT_OF_MEMORY, 9, output),
+    }
+}
+
+// Says why there are no definitions.
+fn refuse<W: Sink>(alloc: Global, why: Undefined, output: &mut W) -> u8
+    ensures said { Prints (undefined_line why) (undefined_status why) (W.written output.old) (W.written output.new) result
+        ⊎ Prints (undefined_line undefined.Memory) 9 (W.written output.old) (W.written output.new) result }
+    ensures read_fault { result ≡ 8 → why ≡ undefined.ReadFault }
+    ensures read_faults { why ≡ undefined.ReadFault → (result ≡ 8) ⊎ (result ≡ 7) }
+    ensures write_fault { result ≡ 7 → Rose (W.faults output.old) (W.faults output.new) }
+    ensures write_faults { W.faults output.old < W.faults output.new → result ≡ 7 }
+    ensures write_later { W.faults output.old ≤ W.faults output.new }
+{
+    match why {
+        Undefined::Faulty(fault) => match fault_line(alloc, fault) {
+            Ok(line) => say(line.as_bytes(), 3, output),
+            Err(_) => say(OUT_OF_MEMORY, 9, output),
+        },
+        Undefined::TooLong => say(b"definitions: too long\n", 3, output),
+        Undefined::ReadFault => say(b"read fault\n", 8, output),
+        Undefined::Memory => say(OUT_OF_MEMORY, 9, output),
     }
 }
 
 // Writes the line; after a failed write the status is 7.
 fn say<W: Sink>(line: &[u8], status: u8, output: &mut W) -> u8
-    requires { (status ≡ 2) ⊎ (status ≡ 9) }
-    ensures said { ((result ≡ status) × Took (W.written output.old) (W.written output.new) line.now) ⊎ ((result ≡ 7) × TookFront (W.written output.old) (W.written output.new) line.now) }
+    requires { status ≢ 7 }
+    ensures said { Prints line.now status (W.written output.old) (W.written output.new) result }
     ensures write_fault { result ≡ 7 → Rose (W.faults output.old) (W.faults output.new) }
     ensures write_faults { W.faults output.old < W.faults output.new → result ≡ 7 }
     ensures write_later { W.faults output.old ≤ W.faults output.new }
-    ensures other { result ≢ 8 }
+    ensures status { (result ≡ status) ⊎ (result ≡ 7) }
 {
     match output.write(line) {
         Ok(()) => status,

@@ -1,15 +1,17 @@
-ghost use Rattle.std.specs.Prelude.{◌≡◌, ◌≢◌, ℕ, Some, None, IsSome, IsTrue};
-ghost use Rattle.q4_machine.specs.History.{IsLegal};
+ghost use Rattle.std.specs.Prelude.{◌≡◌, ◌≢◌, ◌<◌, ℕ, Some, None, IsSome, IsTrue, length};
+ghost use Rattle.q4_flow.specs.Lines.{line_limit};
+ghost use Rattle.q4_machine.specs.History.{IsLegal, definitions_of};
 ghost use Rattle.q4_machine.specs.Parts.{IsInOrder, insert_answer, wait_answer, end_answer};
 ghost use Rattle.q4_proto.specs.declared.reply.Outcome.TheVariants as outcome;
-ghost use Rattle.q4_proto.specs.Text.{text, code, IsOutcome};
+ghost use Rattle.q4_proto.specs.Text.{text, code, code_at, IsOutcome};
 ghost use Rattle.q4_tool.specs.Exchanges.{answer_outcome, fault_outcome};
 ghost use Rattle.q4_tool.specs.Sessions.{Session, Conversation, ReadCause, WriteCause};
 ghost use Rattle.q4_tool.specs.Answering.{Answering, Told, TellCause, LastReply, LastCause};
 
 use q4_flow::{LineEnd, Lines, Sink, Source, WriteFailed};
-use q4_machine::{Added, Desk, DeskFault, InsertFault, ModeFault};
-use q4_proto::{Code, Command, CommandFault, Outcome, put_reply, read_command};
+use q4_machine::{Desk, DeskFault, InsertFault, ModeFault};
+use q4_proto::{Code, Command, CommandFault, Outcome, put_reply, read_command, refusal_of};
+use q4_table::Added;
 use std::alloc::Global;
 
 /// How a session ended.
@@ -47,17 +49,33 @@ fn refused(number: u16) -> Outcome
     })
 }
 
+fn refused_at(number: u16, first: u64) -> Outcome
+    ensures { result ≡ outcome.Refused (code_at number first) }
+{
+    Outcome::Refused(Code {
+        number,
+        first: Some(first),
+        second: None,
+    })
+}
+
 fn insert_outcome(answer: Result<Added, InsertFault>) -> Outcome
-    ensures { result ≡ answer_outcome (insert_answer answer) }
+    ensures told { result ≡ answer_outcome (insert_answer answer) }
+    ensures listed { IsOutcome result }
 {
     match answer {
         Ok(Added::New(number)) => Outcome::Number(number),
+        Ok(Added::Seen(mark)) => Outcome::Seen(mark),
+        Err(InsertFault::Spent) => refused(44),
+        Err(InsertFault::Rows) => refused(41),
+        Err(InsertFault::Bytes(sum)) => refused_at(42, sum),
         Err(InsertFault::Desk(DeskFault::Memory)) => refused(90),
     }
 }
 
 fn wait_outcome(answer: Result<Option<u32>, DeskFault>) -> Outcome
-    ensures { result ≡ answer_outcome (wait_answer answer) }
+    ensures told { result ≡ answer_outcome (wait_answer answer) }
+    ensures listed { IsOutcome result }
 {
     match answer {
         Ok(Some(place)) => Outcome::Number(u64::from(place)),
@@ -67,7 +85,8 @@ fn wait_outcome(answer: Result<Option<u32>, DeskFault>) -> Outcome
 }
 
 fn end_outcome(answer: Result<(), ModeFault>) -> Outcome
-    ensures { result ≡ answer_outcome (end_answer answer) }
+    ensures told { result ≡ answer_outcome (end_answer answer) }
+    ensures listed { IsOutcome result }
 {
     match answer {
         Ok(()) => Outcome::Ok,
@@ -76,14 +95,11 @@ fn end_outcome(answer: Result<(), ModeFault>) -> Outcome
     }
 }
 
-fn refusal(fault: CommandFault) -> Outcome
-    ensures { result ≡ fault_outcome fault }
+fn fault_outcome(fault: CommandFault) -> Outcome
+    ensures told { result ≡ fault_outcome fault }
+    ensures listed { IsOutcome result }
 {
-    match fault {
-        CommandFault::Unknown => refused(11),
-        CommandFault::NotBuilt => refused(19),
-        CommandFault::Memory => refused(90),
-    }
+    Outcome::Refused(refusal_of(fault))
 }
 
 // Writes the reply to a line after which the session goes on.
@@ -113,13 +129,15 @@ fn say_bye<W: Sink>(sink: &mut W) -> Answered
 fn answer<K: Desk, W: Sink>(alloc: Global, desk: &mut K, line: &[u8], sink: &mut W) -> Answered
     requires is_open { IsSome (K.current desk.old) }
     requires in_order { IsInOrder (K.seen desk.old) (K.caller desk.old) (K.current desk.old) }
+    requires line { length line.now < line_limit }
     ensures in_order { IsInOrder (K.seen desk.new) (K.caller desk.new) (K.current desk.new) }
     ensures caller { K.caller desk.new ≡ K.caller desk.old }
+    ensures defined { definitions_of (K.seen desk.new) ≡ definitions_of (K.seen desk.old) }
     ensures current { K.current desk.new ≡ K.current desk.old }
-    ensures answering { (s : ℕ) → K.current desk.old ≡ Some s → Answering (K.caller desk.old) s (K.seen desk.old) (K.seen desk.new) line.now (W.written sink.old) (W.written sink.new) result }
+    ensures answering { (s : ℕ) → K.current desk.old ≡ Some s → Answering (definitions_of (K.seen desk.old)) (K.caller desk.old) s (K.seen desk.old) (K.seen desk.new) line.now (W.written sink.old) (W.written sink.new) result }
     ensures cause { TellCause (W.faults sink.old) (W.faults sink.new) result }
 {
-    match read_command(alloc, line) {
+    match read_command(alloc, line, desk.defs()) {
         Ok(Command::Insert(table, row)) => {
             let outcome = insert_outcome(desk.insert(table, row));
             tell(&outcome, sink)
@@ -133,7 +151,7 @@ fn answer<K: Desk, W: Sink>(alloc: Global, desk: &mut K, line: &[u8], sink: &mut
             tell(&outcome, sink)
         }
         Ok(Command::Quit) => say_bye(sink),
-        Err(fault) => tell(&refusal(fault), sink),
+        Err(fault) => tell(&fault_outcome(fault), sink),
     }
 }
 
@@ -160,8 +178,9 @@ fn converse<K: Desk, S: Source, W: Sink>(
     requires in_order { IsInOrder (K.seen desk.old) (K.caller desk.old) (K.current desk.old) }
     ensures in_order { IsInOrder (K.seen desk.new) (K.caller desk.new) (K.current desk.new) }
     ensures caller { K.caller desk.new ≡ K.caller desk.old }
+    ensures defined { definitions_of (K.seen desk.new) ≡ definitions_of (K.seen desk.old) }
     ensures current { K.current desk.new ≡ K.current desk.old }
-    ensures conversation { (s : ℕ) → K.current desk.old ≡ Some s → Conversation (K.caller desk.old) s (K.seen desk.old) (K.seen desk.new)
+    ensures conversation { (s : ℕ) → K.current desk.old ≡ Some s → Conversation (definitions_of (K.seen desk.old)) (K.caller desk.old) s (K.seen desk.old) (K.seen desk.new)
         (S.left source.old) (S.left source.new) (IsTrue (S.ended source.new)) (W.written sink.old) (W.written sink.new) result }
     ensures read_cause { ReadCause (S.faults source.old) (S.faults source.new) result }
     ensures write_cause { WriteCause (W.faults sink.old) (W.faults sink.new) result }
@@ -198,8 +217,11 @@ pub fn session<K: Desk, S: Source, W: Sink>(
     ensures caller { K.caller desk.new ≡ K.caller desk.old }
     ensures current { K.current desk.new ≡ None }
 
+    // The definitions that all lines are read for do not change.
+    ensures defined { definitions_of (K.seen desk.new) ≡ definitions_of (K.seen desk.old) }
+
     // What the history grew by, what was read and what was written.
-    ensures session { Session (K.caller desk.old) (K.seen desk.old) (K.seen desk.new)
+    ensures session { Session (definitions_of (K.seen desk.old)) (K.caller desk.old) (K.seen desk.old) (K.seen desk.new)
         (S.left source.old) (S.left source.new) (IsTrue (S.ended source.new)) (W.written sink.old) (W.written sink.new) result }
 
     ensures read_cause { ReadCause (S.faults source.old) (S.faults source.new) result }

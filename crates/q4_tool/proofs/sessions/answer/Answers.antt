@@ -1,17 +1,24 @@
-use Rattle.std.proofs.Common.{◌≡◌, [], Ok, Err, refl, sym, subst, append-nil}
+use Rattle.std.proofs.Common.{◌≡◌, [], List, Ok, Err, All, refl, sym, subst, append-nil}
+use Rattle.q4_def.specs.declared.table_def.TableDef.{TableDef}
+use Rattle.q4_machine.specs.Definitions.{IsListed}
 use Rattle.q4_proto.specs.declared.reply.Outcome.TheVariants as outcome
-use Rattle.q4_proto.specs.declared.command.Command.TheVariants.{Quit}
-use Rattle.q4_proto.proofs.Exact.{spelled_fits}
+use Rattle.q4_proto.specs.declared.command.Command.TheVariants.{Quit, Wait}
+use Rattle.q4_proto.specs.Commands.{Reads}
 use Rattle.q4_tool.specs.Exchanges.{fault_outcome}
 use Rattle.q4_tool.specs.Answering.{Told}
+use Rattle.q4_tool.proofs.Commanding.{wait_listed}
 use Rattle.q4_tool.proofs.sessions.answer.Goals as goal
+
+pub wait-requires-clause-listed : goal.wait-requires-clause-listed
+wait-requires-clause-listed g c =
+    subst (λ defs. All (IsListed defs) c.in-Ok-Wait.list) c.defs.ensures (wait_listed c.defs.result.now c.args.line.now c.in-Ok-Wait.list (rw c.in-Ok-Wait.field-0-is at c.in-Ok-Wait.ensures))
 
 pub returns-in-Ok-Quit-clause-answering : goal.returns-in-Ok-Quit-clause-answering
 returns-in-Ok-Quit-clause-answering g c = λ s is. record {
   grown = [];
   out = outcome.Bye;
   history = sym (append-nil (g.K.Desk.seen c.args.desk.now));
-  exchange = record { read = Ok Quit; reads = rw c.in-Ok-Quit.field-0-is at c.in-Ok-Quit.ensures; does = (refl, refl) };
+  exchange = record { read = Ok Quit; reads = subst (λ defs. Reads defs c.args.line.now (Ok Quit)) c.defs.ensures (rw c.in-Ok-Quit.field-0-is at c.in-Ok-Quit.ensures); does = (refl, refl) };
   told = c.say_bye.ensures.told;
 }
 
@@ -20,11 +27,6 @@ returns-in-Err-clause-answering g c = λ s is. record {
   grown = [];
   out = fault_outcome c.in-Err.fault;
   history = sym (append-nil (g.K.Desk.seen c.args.desk.now));
-  exchange = record { read = Err c.in-Err.fault; reads = c.in-Err.ensures; does = (refl, refl) };
-  told = subst (λ out. Told (g.W.Sink.written c.args.sink.now) (g.W.Sink.written c.tell-in-Err.new.sink) out c.tell-in-Err.result) c.refusal.ensures c.tell-in-Err.ensures.told;
+  exchange = record { read = Err c.in-Err.fault; reads = subst (λ defs. Reads defs c.args.line.now (Err c.in-Err.fault)) c.defs.ensures c.in-Err.ensures; does = (refl, refl) };
+  told = subst (λ out. Told (g.W.Sink.written c.args.sink.now) (g.W.Sink.written c.tell-in-Err.new.sink) out c.tell-in-Err.result) c.fault_outcome.ensures.told c.tell-in-Err.ensures.told;
 }
-
-pub insert-requires-clause-fits : goal.insert-requires-clause-fits
-insert-requires-clause-fits g c =
-    let spells = rw c.in-Ok-Insert.field-0-is at c.in-Ok-Insert.ensures in
-    spelled_fits spells.1.0 c.in-Ok-Insert.row spells.1.2

@@ -1,0 +1,37 @@
+-- What came of the definitions, with what was done then.
+use Rattle.std.proofs.Common.{◌≡◌, ◌<◌, ◌≤◌, ◌⊎◌, List, ℕ, Option, Result, Ok, Err, inl, inr, refl, subst, arith}
+use Rattle.q4_flow.specs.Flow.{Gave}
+use Rattle.q4_def.specs.declared.table_def.TableDef.{TableDef}
+use Rattle.q4_tool.specs.declared.definitions.Undefined.{Undefined}
+use Rattle.q4_tool.specs.declared.definitions.Undefined.TheVariants.{Faulty, TooLong, ReadFault, Memory}
+use Rattle.q4_tool.specs.Definitions.{Comes, undefined_line, undefined_status}
+use Rattle.q4_tool.specs.Tool.{Prints, Says, Ran, RunsDefined}
+
+-- whatever came, some bytes did
+gave_some : (left left' : Option (List ℕ)) (ended failed : Type 0) (came : Result (List TableDef) Undefined) → Comes left left' ended failed came → Comes left left' ended failed (Err Memory)
+gave_some left left' ended failed (Ok defs) are = (are.bytes, are.all.gave)
+gave_some left left' ended failed (Err (Faulty why)) are = (are.bytes, are.all.gave)
+gave_some left left' ended failed (Err TooLong) are = (are.bytes, are.gave)
+gave_some left left' ended failed (Err ReadFault) are = (are.bytes, are.gave)
+gave_some left left' ended failed (Err Memory) gave = gave
+
+-- definitions came, and the session ran or wanted memory
+pub ran_defined : (text text' : Option (List ℕ)) (text_ended text_failed : Type 0) (left left' : Option (List ℕ)) (ended : Type 0) (written written' : Option (List ℕ)) (status : ℕ) (defs : List TableDef)
+    → Comes text text' text_ended text_failed (Ok defs) → Ran defs left left' ended written written' status ⊎ Says (undefined_line Memory) 9 left left' written written' status
+    → RunsDefined text text' text_ended text_failed left left' ended written written' status
+ran_defined text text' text_ended text_failed left left' ended written written' status defs comes (inl ran) = record { came = Ok defs; comes = comes; runs = ran }
+ran_defined text text' text_ended text_failed left left' ended written written' status defs comes (inr says) =
+    record { came = Err Memory; comes = gave_some text text' text_ended text_failed (Ok defs) comes; runs = says }
+
+-- none came, and it was said why, or memory was wanted
+pub refused_defined : (text text' : Option (List ℕ)) (text_ended text_failed : Type 0) (left : Option (List ℕ)) (ended : Type 0) (written written' : Option (List ℕ)) (status : ℕ) (why : Undefined)
+    → Comes text text' text_ended text_failed (Err why) → Prints (undefined_line why) (undefined_status why) written written' status ⊎ Prints (undefined_line Memory) 9 written written' status
+    → RunsDefined text text' text_ended text_failed left left ended written written' status
+refused_defined text text' text_ended text_failed left ended written written' status why comes (inl prints) = record { came = Err why; comes = comes; runs = (refl, prints) }
+refused_defined text text' text_ended text_failed left ended written written' status why comes (inr prints) =
+    record { came = Err Memory; comes = gave_some text text' text_ended text_failed (Err why) comes; runs = (refl, prints) }
+
+-- a source whose count rose failed
+pub rose_unread : (why : Undefined) (before now : ℕ) → (now ≡ before) ⊎ (◌≡◌ {A = Result (List TableDef) Undefined} (Err why) (Err ReadFault)) → before < now → why ≡ ReadFault
+rose_unread why before now (inl same) rose = absurd (omega arith)
+rose_unread why before now (inr is) rose = cc is
