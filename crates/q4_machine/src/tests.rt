@@ -255,7 +255,7 @@ const WAITS: [(Ask, Reply); 16] = [
     (Insert(0, &[Number(9), Text("b")]), Reply::Added(2)),
     (Insert(0, &[Number(5), Text("c")]), Reply::Added(3)),
     (Insert(1, &[Text("x"), Number(4)]), Reply::Added(1)),
-    // Row 2 of `jobs`, the oldest that any entry's condition is met by.
+    // Row 2 of `jobs`, the oldest that meets a condition of the list.
     (
         Wait(&[(0, "prio>9"), (1, "prio>=5"), (0, "prio>=5")]),
         Reply::Found(3),
@@ -263,7 +263,7 @@ const WAITS: [(Ask, Reply); 16] = [
     (End, Reply::Done),
     // Row 3 of `jobs`, and no longer row 2.
     (Wait(&[(0, "prio>=5")]), Reply::Found(1)),
-    // Row 1 of `hot`, though the row of `jobs` is older.
+    // Row 1 of `hot`, though `jobs` has a row as well.
     (Wait(&[(1, ""), (0, "")]), Reply::Found(1)),
     (
         Wait(&[(1, ""), (0, "prio>=5"), (0, "body='a'")]),
