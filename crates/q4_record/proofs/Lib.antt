@@ -16,3 +16,4 @@ pub mod WrittenBases
 pub mod WrittenSides
 pub mod Changes
 pub mod PartedBases
+pub mod Leading

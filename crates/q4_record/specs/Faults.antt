@@ -14,13 +14,15 @@ use Rattle.q4_record.specs.Reading.{SectionFails}
 use Rattle.q4_record.specs.Schema.{schema_bytes, SchemaFails}
 use Rattle.q4_record.specs.Side.{side_limit, generation_limit, base_at, base_of, generation_of, IsOpen, HasHeader, Begins, Reaches, IsWhole, place_behind, HasRoom}
 
--- Why the header does not stand, at an open gate: too many bytes go before damage, and damage before too great a generation.
+-- Why the header does not stand, at an open gate. Too many bytes go before damage, and damage before too great a
+-- generation.
 abbrev pub HeaderFails : List ℕ → SideFault → Type 0
 HeaderFails bytes fault.Closed = ⊥
 HeaderFails bytes (fault.Damaged place) = (place ≡ 0) × (length bytes ≤ side_limit) × (HasHeader bytes → ⊥)
 HeaderFails bytes (fault.Schema column) = ⊥
 HeaderFails bytes (fault.Large limit) =
-    ((limit ≡ 6) × (side_limit < length bytes)) ⊎ ((limit ≡ 7) × (length bytes ≤ side_limit) × HasHeader bytes × (generation_limit < generation_of bytes))
+    ((limit ≡ 6) × (side_limit < length bytes))
+    ⊎ ((limit ≡ 7) × (length bytes ≤ side_limit) × HasHeader bytes × (generation_limit < generation_of bytes))
 HeaderFails bytes fault.Memory = ⊥
 
 -- The schema stands, and one of the records behind it does not.
@@ -39,7 +41,8 @@ pub record Unfinished (columns : List Column) (base : List ℕ) (why : SideFault
 
 -- Why the base does not stand.
 abbrev pub BaseFails : List Column → List ℕ → SideFault → Type 0
-BaseFails columns base why = SchemaFails columns base base_at why ⊎ RecordsFail columns base why ⊎ Unfinished columns base why
+BaseFails columns base why =
+    SchemaFails columns base base_at why ⊎ RecordsFail columns base why ⊎ Unfinished columns base why
 
 -- behind a batch's gate: the bytes end within the length or the records, or leave no closing gate
 abbrev pub EndsInBatch : List ℕ → Type 0
@@ -56,7 +59,8 @@ pub record BatchRecordsFail (replay : Replay) (bytes : List ℕ) (at : ℕ) (why
 
 -- Why the batch does not stand whose gate is at this place, by what is behind the gate.
 abbrev pub BatchFails : Replay → List ℕ → ℕ → SideFault → Type 0
-BatchFails replay bytes at why = ((why ≡ fault.Damaged at) × EndsInBatch bytes) ⊎ BatchRecordsFail replay bytes at why
+BatchFails replay bytes at why =
+    ((why ≡ fault.Damaged at) × EndsInBatch bytes) ⊎ BatchRecordsFail replay bytes at why
 
 -- Some batches stand, and the next one does not.
 pub record BatchesFail (columns : List Column) (bytes : List ℕ) (why : SideFault) : Type 0 where
@@ -77,7 +81,11 @@ pub record LacksRoom (columns : List Column) (bytes : List ℕ) (why : SideFault
 
 -- Why an open side stands for no table.
 abbrev pub OpenFails : List Column → List ℕ → SideFault → Type 0
-OpenFails columns bytes why = HeaderFails bytes why ⊎ (Begins bytes × BaseFails columns (base_of bytes) why) ⊎ BatchesFail columns bytes why ⊎ LacksRoom columns bytes why
+OpenFails columns bytes why =
+    HeaderFails bytes why
+    ⊎ (Begins bytes × BaseFails columns (base_of bytes) why)
+    ⊎ BatchesFail columns bytes why
+    ⊎ LacksRoom columns bytes why
 
 -- Why the bytes are no side. Memory may be wanted at any time.
 abbrev pub SideFails : List Column → List ℕ → SideFault → Type 0

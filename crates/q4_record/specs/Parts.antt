@@ -34,7 +34,8 @@ pub record RowPasses (old : Replay) (head : Head) (bytes : List ℕ) (limit : �
 
 -- Neither a whole row stands behind the head nor one that is cut off behind too long a text.
 pub record NoRow (old : Replay) (head : Head) (bytes : List ℕ) : Type 0 where
-  pub none : (row : List Value) (rest : List ℕ) → IsWideRow (row_columns old.table.columns head) row → bytes ≡ row_bytes row ++ rest → ⊥
+  pub none : (row : List Value) (rest : List ℕ) → IsWideRow (row_columns old.table.columns head) row
+      → bytes ≡ row_bytes row ++ rest → ⊥
   pub not_long : CutLong (row_columns old.table.columns head) bytes → ⊥
 
 -- Why the record of this head, which may come, does not stand.
@@ -42,7 +43,8 @@ abbrev pub RowFails : Replay → Head → List ℕ → ℕ → SideFault → Typ
 RowFails old head bytes at fault.Closed = ⊥
 RowFails old head bytes at (fault.Damaged place) = (place ≡ at) × NoRow old head bytes
 RowFails old head bytes at (fault.Schema column) = ⊥
-RowFails old head bytes at (fault.Large limit) = RowPasses old head bytes limit ⊎ ((limit ≡ 4) × CutLong (row_columns old.table.columns head) bytes)
+RowFails old head bytes at (fault.Large limit) =
+    RowPasses old head bytes limit ⊎ ((limit ≡ 4) × CutLong (row_columns old.table.columns head) bytes)
 RowFails old head bytes at fault.Memory = Unit {0}
 
 -- A record at the front stands, and was replayed.

@@ -30,10 +30,12 @@ pub record Passes (replay : Replay) (bytes : List ℕ) (limit : ℕ) : Type 0 wh
   pub comes : Comes replay bytes r rest
   pub passed : passed_limit (replayed replay r).table r.row ≡ Some limit
 
--- Why no record stands at the front of bytes, which begin at a place. Damage goes before each limit, but a text that is too long goes before an early end.
+-- Why no record stands at the front of bytes, which begin at a place. Damage goes before each limit, but a text that is
+-- too long goes before an early end.
 abbrev pub RecordFails : Replay → List ℕ → ℕ → SideFault → Type 0
 RecordFails replay bytes at fault.Closed = ⊥
-RecordFails replay bytes at (fault.Damaged place) = (place ≡ at) × ((r : Record) (rest : List ℕ) → Comes replay bytes r rest → ⊥) × (BreaksOff replay bytes → ⊥)
+RecordFails replay bytes at (fault.Damaged place) =
+    (place ≡ at) × ((r : Record) (rest : List ℕ) → Comes replay bytes r rest → ⊥) × (BreaksOff replay bytes → ⊥)
 RecordFails replay bytes at (fault.Schema column) = ⊥
 RecordFails replay bytes at (fault.Large limit) = Passes replay bytes limit ⊎ ((limit ≡ 4) × BreaksOff replay bytes)
 RecordFails replay bytes at fault.Memory = ⊥

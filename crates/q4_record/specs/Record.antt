@@ -21,10 +21,12 @@ abbrev pub mode_byte : Mode → ℕ
 mode_byte A = 1
 mode_byte W = 2
 
--- 1 for an insert, or 2 where it was forwarded, with its source, mode and number there; 3 for an end, 5 for a mark, 6 for a next number
+-- 1 for an insert, or 2 where it was forwarded, with its source, mode and number there; 3 for an end, 5 for a mark, 6
+-- for a next number
 abbrev pub head_bytes : Head → List ℕ
 head_bytes (Insert number None) = 1 ∷ to_be_bytes w64 number
-head_bytes (Insert number (Some origin)) = 2 ∷ origin.source ∷ mode_byte origin.mode ∷ to_be_bytes w64 origin.number ++ to_be_bytes w64 number
+head_bytes (Insert number (Some origin)) =
+    2 ∷ origin.source ∷ mode_byte origin.mode ∷ to_be_bytes w64 origin.number ++ to_be_bytes w64 number
 head_bytes (End number) = 3 ∷ to_be_bytes w64 number
 head_bytes (Mark source number) = 5 ∷ source ∷ to_be_bytes w64 number
 head_bytes (Next number) = 6 ∷ to_be_bytes w64 number

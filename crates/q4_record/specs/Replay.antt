@@ -88,7 +88,8 @@ at_base columns = record { stage = Rows; table = new_table columns }
 abbrev pub at_batches : TableState → Replay
 at_batches table = record { stage = Batch; table = table }
 
--- the least limit that a table passes whose last record has this row: 1 for its rows, 2 for their sizes, 3 for next, 4 for a text, 5 for the row's size
+-- the least limit that a table passes whose last record has this row: 1 for its rows, 2 for their sizes, 3 for next, 4
+-- for a text, 5 for the row's size
 abbrev pub passed_limit : TableState → List Value → Option ℕ
 passed_limit table row =
     if nat_lt count_limit (length table.rows) then Some 1

@@ -49,10 +49,12 @@ pub record OtherSchema (columns : List Column) (base : List ℕ) (number : ℕ) 
   pub base_is : base ≡ schema_bytes others ++ rest
   pub differ : DifferAt columns others number
 
--- Why the base, which begins at a place, does not begin with the definition's schema: it begins with none, or with another.
+-- Why the base, which begins at a place, does not begin with the definition's schema: it begins with none, or with
+-- another.
 abbrev pub SchemaFails : List Column → List ℕ → ℕ → SideFault → Type 0
 SchemaFails columns base at fault.Closed = ⊥
-SchemaFails columns base at (fault.Damaged place) = (place ≡ at) × ((others : List Column) (rest : List ℕ) → IsSchema others → base ≡ schema_bytes others ++ rest → ⊥)
+SchemaFails columns base at (fault.Damaged place) =
+    (place ≡ at) × ((others : List Column) (rest : List ℕ) → IsSchema others → base ≡ schema_bytes others ++ rest → ⊥)
 SchemaFails columns base at (fault.Schema number) = OtherSchema columns base number
 SchemaFails columns base at (fault.Large limit) = ⊥
 SchemaFails columns base at fault.Memory = ⊥

@@ -99,7 +99,8 @@ pub record Reaches (columns : List Column) (bytes : List ℕ) (batches : List (L
 abbrev pub place_behind : List ℕ → List (List Record) → ℕ
 place_behind bytes batches = base_at + base_length_of bytes + length (batches_bytes batches)
 
--- All parts stand up to the closing gate, which is any byte but 1 and whatever follows it. The length is that up to and with the closing gate.
+-- All parts stand up to the closing gate, which is any byte but 1, whatever follows it. The length is that up to and
+-- with the closing gate.
 pub record IsWhole (columns : List Column) (bytes : List ℕ) (table : TableState) (generation len : ℕ) : Type 0 where
   pub batches : List (List Record)
   pub replay : Replay

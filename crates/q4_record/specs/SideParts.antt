@@ -10,7 +10,8 @@ use Rattle.q4_record.specs.Replay.{at_batches}
 use Rattle.q4_record.specs.Side.{IsOpen, batches_bytes, BatchesStand, after_batches}
 use Rattle.q4_record.specs.Faults.{HeaderFails, BaseFails, BatchFails}
 
--- the first column that differs, from the one before: the same, or else this place's where the column here is not the one told
+-- the first column that differs, from the one before: the same, or else this place's where the column here is not the
+-- one told
 abbrev pub DiffersNext : Option ℕ → Option Column → Column → ℕ → Option ℕ → Type 0
 DiffersNext (Some number) here told place next = next ≡ Some number
 DiffersNext None here told place None = here ≡ Some told
@@ -29,7 +30,8 @@ pub record LeadsTo (table : TableState) (batches : List (List Record)) (replay :
   pub stand : BatchesStand (at_batches table) batches
   pub replay_is : replay ≡ after_batches (at_batches table) batches
 
--- Batches stand up to the closing gate, and lead to the new table. They begin at this place, and the length is that up to and with the closing gate.
+-- Batches stand up to the closing gate, and lead to the new table. They begin at this place, and the length is that up
+-- to and with the closing gate.
 pub record BatchesRead (table : TableState) (bytes : List ℕ) (at : ℕ) (new : TableState) (len : ℕ) : Type 0 where
   pub batches : List (List Record)
   pub replay : Replay

@@ -1,6 +1,7 @@
 -- How a table is written as a side, and what is written behind it.
 use Rattle.std.specs.Prelude.{◌≡◌, ◌≢◌, ◌≤◌, ◌+◌, ℕ, List, [], ◌∷◌, ◌++◌, None, All, length, map, codes}
 use Rattle.std.specs.Int.{w64, to_be_bytes}
+use Rattle.q4_value.specs.declared.column.Column.{Column}
 use Rattle.q4_table.specs.declared.marks.Mark as marks
 use Rattle.q4_table.specs.declared.rows.StoredRow.{StoredRow}
 use Rattle.q4_table.specs.TableState.{TableState}
@@ -29,11 +30,13 @@ base_bytes table = schema_bytes table.columns ++ records_bytes (base_records tab
 
 -- an open gate, the magic, the generation, the length of the base, the base, and what is behind it
 abbrev pub side_bytes : ℕ → List ℕ → List ℕ → List ℕ
-side_bytes generation base behind = 1 ∷ codes "Q4O1" ++ to_be_bytes w64 generation ++ to_be_bytes w64 (length base) ++ (base ++ behind)
+side_bytes generation base behind =
+    1 ∷ codes "Q4O1" ++ to_be_bytes w64 generation ++ to_be_bytes w64 (length base) ++ (base ++ behind)
 
 -- the table as a base, batches behind it, and the closing gate
 abbrev pub written : TableState → ℕ → List (List Record) → ℕ → List ℕ → List ℕ
-written table generation batches closing ignored = side_bytes generation (base_bytes table) (batches_bytes batches ++ closing ∷ ignored)
+written table generation batches closing ignored =
+    side_bytes generation (base_bytes table) (batches_bytes batches ++ closing ∷ ignored)
 
 -- the table that they lead to
 abbrev pub written_table : TableState → List (List Record) → TableState
@@ -54,3 +57,9 @@ pub record IsWritten (table : TableState) (generation : ℕ) (batches : List (Li
   pub closed : closing ≢ 1
   pub few : length (written table generation batches closing ignored) ≤ side_limit
   pub room : HasRoom (written_table table batches) (written_length table batches)
+
+-- A valid table of the columns that nobody owns a row of.
+pub record IsSound (columns : List Column) (table : TableState) : Type 0 where
+  pub columns_are : table.columns ≡ columns
+  pub valid : IsValidTable table
+  pub unowned : All (λ r. r.owner ≡ None) table.rows

@@ -10,7 +10,7 @@ ghost use Rattle.q4_table.specs.declared.origin.Origin.{Origin as RowOrigin};
 ghost use Rattle.q4_table.specs.TableState.{TableState};
 ghost use Rattle.q4_table.specs.Rows.{IsThere, without_row};
 ghost use Rattle.q4_table.specs.Adding.{IsOrigin, check_of, add_row};
-ghost use Rattle.q4_table.specs.Valid.{IsValidTable};
+ghost use Rattle.q4_table.specs.Valid.{IsColumns, IsValidTable};
 ghost use Rattle.q4_record.specs.declared.head.Head.TheVariants as head;
 ghost use Rattle.q4_record.specs.declared.side.SideFault.{SideFault as Fault};
 ghost use Rattle.q4_record.specs.declared.side.SideFault.TheVariants as fault;
@@ -19,7 +19,7 @@ ghost use Rattle.q4_record.specs.Schema.{IsSchema};
 ghost use Rattle.q4_record.specs.Replay.{Stands, replayed, at_batches};
 ghost use Rattle.q4_record.specs.Side.{IsBase, Side};
 ghost use Rattle.q4_record.specs.Faults.{SideFails};
-ghost use Rattle.q4_record.specs.Written.{IsWritten, written, written_table, written_length};
+ghost use Rattle.q4_record.specs.Written.{IsSound, IsWritten, written, written_table, written_length};
 ghost use Rattle.q4_record.specs.Parted.{BaseParts};
 
 /// Laws of sides and their faults.
@@ -57,4 +57,10 @@ pub fn changes_stand()
 /// A law: a base is a schema, then inserts and ends, then marks by rising source, then one next record.
 pub fn bases_have_their_order()
     ensures { (columns : List Header) (base : List ℕ) (table : TableState) → IsBase columns base table → BaseParts columns base }
+{}
+
+/// A law: a side of columns stands for a valid table of these columns, which nobody owns a row of.
+pub fn sides_are_sound()
+    ensures { (columns : List Header) (bytes : List ℕ) (table : TableState) (generation len : ℕ) → IsColumns columns → Side columns bytes table generation len
+        → IsSound columns table }
 {}

@@ -10,7 +10,9 @@ mod schema;
 mod side;
 mod writing;
 
-pub use laws::{bases_have_their_order, changes_stand, side_laws, written_sides_are_read};
+pub use laws::{
+    bases_have_their_order, changes_stand, side_laws, sides_are_sound, written_sides_are_read,
+};
 pub use side::{SideFault, read_side};
 pub use writing::{put_end, put_insert, put_mark, put_next, put_schema};
 
