@@ -67,7 +67,7 @@ found_inside defs place name is =
 pub one_place : (defs : List TableDef) (p q : ℕ) (name : List ℕ) → AreDefs defs → slice_get (names_of defs) p ≡ Some name → slice_get (names_of defs) q ≡ Some name → p ≡ q
 one_place defs p q name are at_p at_q =
     let name_at = λ (k : ℕ) (is : slice_get (names_of defs) k ≡ Some name).
-      let shown : (get_or defs k no_definition).name ≡ name = sym (get_or-map (λ (def : TableDef). def.name) defs k no_definition name (found_inside defs k name is)) ∙ (found_at defs k name is).is in shown in
+    let shown : (get_or defs k no_definition).name ≡ name = sym (get_or-map (λ (def : TableDef). def.name) defs k no_definition name (found_inside defs k name is)) ∙ (found_at defs k name is).is in shown in
     elim (cases_order p q) [
       | inl same ↦ same
       | inr (inl below) ↦ absurd (are.distinct.once p q no_definition below (found_inside defs q name at_q) (name_at p at_p ∙ sym (name_at q at_q)))

@@ -73,7 +73,7 @@ first_misspelled columns values rest more row c f i same inside is so_far next r
         found = (c, f);
         after = zip (drop (i + 1) columns) more;
         cut = ap (λ vs. zip columns vs) (so_far ∙ ap (λ r. map spelled_value row ++ r) next) ∙ ap (λ cs. zip cs (map spelled_value row ++ f ∷ more)) cut
-          ∙ zip_split (take i columns) (drop (i + 1) columns) c row f more (sym len);
+            ∙ zip_split (take i columns) (drop (i + 1) columns) c row f more (sym len);
         place_is = omega (arith, zip_length (take i columns) row (sym len), count);
         none_before = none_misspelled (take i columns) row row_of;
         holds = bad;

@@ -63,9 +63,9 @@ before_table defs field entry built spells Memory lower stands = let none : ⊥ 
 pub no_table : (defs : List TableDef) (field entry name text : List ℕ) → (BeginsEqual field → ⊥) → field ≡ escaped entry → IsCut entry name text → (Contains (names_of defs) name → ⊥) → IsRefused defs Wait (field ∷ []) (NoTable 1)
 no_table defs field entry name text built spells cut none = record {
   stands = first_of_one (IsOfNoTable defs Wait) field (λ other names contains.
-    let same : names.0 ≡ entry = escaped_once names.0 entry (sym names.1 ∙ spells) in
-    let name_is : other ≡ name = names.2 ∙ ap (before_first (λ b. b == 58)) same ∙ sym cut.front in
-    none (subst (Contains (names_of defs)) name_is contains));
+      let same : names.0 ≡ entry = escaped_once names.0 entry (sym names.1 ∙ spells) in
+      let name_is : other ≡ name = names.2 ∙ ap (before_first (λ b. b == 58)) same ∙ sym cut.front in
+      none (subst (Contains (names_of defs)) name_is contains));
   first = before_table defs field entry built spells;
 }
 

@@ -91,11 +91,8 @@ fn read_fields(
         Keyword::Wait => read_wait(alloc, args, defs),
         Keyword::End => read_end(args),
         Keyword::Quit => read_quit(args),
-        Keyword::Source
-        | Keyword::RowId
-        | Keyword::Abort
-        | Keyword::Select
-        | Keyword::Compact => Err(CommandFault::NotBuilt),
+        Keyword::Source | Keyword::RowId | Keyword::Abort | Keyword::Select | Keyword::Compact =>
+            Err(CommandFault::NotBuilt),
     }
 }
 

@@ -12,6 +12,5 @@ mod wait;
 pub use command::{Command, CommandFault, read_command};
 pub use reply::{Code, Outcome, put_reply, refusal_of};
 
-
 #[cfg(test)]
 mod tests;

@@ -11,11 +11,7 @@ use q4_value::{EscapeFault, unescape};
 use std::alloc::Global;
 
 // Reads the fields of a wait, which so far has one entry and no seconds.
-pub(crate) fn read_wait(
-    alloc: Global,
-    args: &Fields,
-    defs: &Defs,
-) -> Result<Command, CommandFault>
+pub(crate) fn read_wait(alloc: Global, args: &Fields, defs: &Defs) -> Result<Command, CommandFault>
     requires { length args.now < 2 ^ 32 }
     ensures { ReadsFields defs.now word.Wait args.now result }
 {
