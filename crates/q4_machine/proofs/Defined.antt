@@ -1,12 +1,9 @@
 -- The definitions of tables stay as they are.
-use Rattle.std.proofs.Common.{◌≡◌, ◌<◌, ◌∙◌, List, ℕ, Option, Some, None, map, length, set, get_or, refl, sym, ap, subst, inl, inr}
+use Rattle.std.proofs.Common.{◌≡◌, ◌<◌, List, ℕ, Option, Some, None, length, refl, ap, subst}
 use Rattle.std.proofs.Math.ListN.{get_or-map}
 use Rattle.std.proofs.Math.Seq.{map-set_same}
 use Rattle.std.proofs.lemmas.List.{length-map}
-use Rattle.q4_value.specs.declared.column.Column.{Column}
 use Rattle.q4_value.specs.declared.row.Value.{Value}
-use Rattle.q4_value.specs.Row.{Fits}
-use Rattle.q4_cond.specs.Reading.{kinds_of}
 use Rattle.q4_table.specs.declared.adding.Check.{Check}
 use Rattle.q4_table.specs.declared.adding.Check.TheVariants as check
 use Rattle.q4_table.specs.TableState.{TableState}
@@ -18,7 +15,7 @@ use Rattle.q4_machine.specs.declared.looks.Listed.{Listed}
 use Rattle.q4_machine.specs.declared.tables.Opening.{Opening}
 use Rattle.q4_machine.specs.declared.entry.Call.{Call}
 use Rattle.q4_machine.specs.declared.entry.Call.TheVariants.{Opened, Open, Insert, Look, End, Close, Sync}
-use Rattle.q4_machine.specs.Definitions.{definition_of, definitions, no_definition, columns_at, IsRowFor, IsListed}
+use Rattle.q4_machine.specs.Definitions.{definition_of, definitions, columns_at, IsListed}
 use Rattle.q4_machine.specs.Machine.{MachineState, no_table, opening_at, table_at, mode_of}
 use Rattle.q4_machine.specs.Pick.{Picked, pick}
 use Rattle.q4_machine.specs.Step.{step, MayStep, with_table, inserted, looked, ended, closed}

@@ -13,17 +13,14 @@ use Rattle.q4_machine.specs.declared.entry.Reply.TheVariants as reply
 use Rattle.q4_machine.specs.declared.session.SessionMode.{SessionMode}
 use Rattle.q4_machine.specs.declared.session.SessionMode.TheVariants.{NonOwner, Empty, Owner}
 use Rattle.q4_machine.specs.Machine.{mode_of}
-use Rattle.q4_def.specs.declared.table_def.TableDef.{TableDef}
-use Rattle.q4_table.specs.declared.adding.Added.{Added}
-use Rattle.q4_table.specs.declared.adding.Added.TheVariants.{New, Seen}
+use Rattle.q4_table.specs.declared.adding.Added.TheVariants.{Seen}
 use Rattle.q4_machine.specs.declared.looks.Listed.{Listed}
 use Rattle.q4_machine.specs.declared.desk.DeskFault.TheVariants.{Memory}
 use Rattle.q4_machine.specs.declared.desk.InsertFault.{InsertFault}
 use Rattle.q4_machine.specs.declared.desk.InsertFault.TheVariants as insert_fault
-use Rattle.q4_machine.specs.declared.desk.ModeFault.TheVariants as fault
 use Rattle.q4_machine.specs.Step.{end_reply, look_reply}
 use Rattle.q4_machine.specs.History.{state_after, is_added, is_owner, IsSettled, SyncsAreOwed, IsOpenFor}
-use Rattle.q4_machine.specs.Parts.{calls_of, Answer, Replied, WantsMemory, ends_first, ending, IsPart, IsInOrder, Grows, IsOpened, IsClosed, insert_answer, wait_answer, end_answer}
+use Rattle.q4_machine.specs.Parts.{calls_of, Answer, Replied, WantsMemory, ends_first, ending, IsPart, IsInOrder, Grows, IsOpened, IsClosed, insert_answer, wait_answer}
 use Rattle.q4_machine.specs.Recorded.{Recorded, DeskState, entry, pushed, answered, HasRoom, IsSound}
 use Rattle.q4_machine.specs.OneDesk.{IsDesk}
 use Rattle.q4_table.proofs.Lookup.{some_of}

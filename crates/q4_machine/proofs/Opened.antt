@@ -1,12 +1,10 @@
 -- A desk's history at first: the one entry of empty tables.
-use Rattle.std.proofs.Common.{◌≡◌, ◌≢◌, ◌<◌, ◌≤◌, ◌++◌, ◌∷◌, ◌∙◌, [], List, ℕ, None, All, map, length, get_or, refl, ap, arith}
+use Rattle.std.proofs.Common.{◌≡◌, ◌≤◌, ◌∷◌, [], List, None, All, map, length, get_or, refl, ap, arith}
 use Rattle.std.proofs.lemmas.List.{length-map}
 use Rattle.std.proofs.lemmas.List.Elements.{All-nil, All-cons, All-map}
-use Rattle.q4_value.specs.Names.{AreColumns}
 use Rattle.q4_value.specs.Row.{Fits}
 use Rattle.q4_def.specs.declared.table_def.TableDef.{TableDef}
 use Rattle.q4_def.specs.Tables.{IsTableDef, AreDefs}
-use Rattle.q4_table.specs.declared.marks.Mark.{Mark}
 use Rattle.q4_table.specs.declared.rows.StoredRow.{StoredRow}
 use Rattle.q4_table.specs.TableState.{new_table}
 use Rattle.q4_table.specs.Valid.{IsValidTable, IsMark}
@@ -14,7 +12,7 @@ use Rattle.q4_machine.specs.declared.entry.Entry.{Entry}
 use Rattle.q4_machine.specs.declared.tables.Opening.{Opening}
 use Rattle.q4_machine.specs.Definitions.{definition_of}
 use Rattle.q4_machine.specs.Valid.{AreValidTables}
-use Rattle.q4_machine.specs.History.{AreUnowned, definitions_of, IsNext, IsLegal}
+use Rattle.q4_machine.specs.History.{AreUnowned}
 use Rattle.q4_machine.specs.Recorded.{new_opening, opened_new, IsSound}
 use Rattle.q4_machine.proofs.Histories.{nil_long}
 

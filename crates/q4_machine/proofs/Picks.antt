@@ -1,5 +1,5 @@
 -- What is picked is the oldest row that nobody owns and that meets the condition of the earliest entry that any meets.
-use Rattle.std.proofs.Common.{◌≡◌, ◌<◌, ◌+◌, ◌++◌, ◌∷◌, [], List, ℕ, Option, Some, None, All, length, refl, ap, subst, arith}
+use Rattle.std.proofs.Common.{◌≡◌, ◌+◌, ◌++◌, ◌∷◌, [], List, ℕ, Option, Some, None, All, length, refl, ap, subst, arith}
 use Rattle.std.proofs.lemmas.List.Elements.{All-nil, All-cons, All-head, All-tail, All-weaker, All-get_or}
 use Rattle.q4_table.specs.Oldest.{oldest_meeting, TakesOldest}
 use Rattle.q4_machine.specs.declared.looks.Listed.{Listed}

@@ -7,7 +7,7 @@ use Rattle.q4_machine.specs.declared.session.SessionMode.{SessionMode}
 use Rattle.q4_machine.specs.declared.session.SessionMode.TheVariants.{NonOwner, Empty, Owner}
 use Rattle.q4_machine.specs.declared.session.OpenSession.{OpenSession}
 use Rattle.q4_table.specs.declared.rows.StoredRow.{StoredRow}
-use Rattle.q4_table.specs.Rows.{row_in, owner_in, owned_by, with_owner}
+use Rattle.q4_table.specs.Rows.{row_in, owned_by, with_owner}
 use Rattle.q4_machine.specs.Machine.{session_in, in_mode, with_mode}
 use Rattle.q4_table.proofs.Lookup.{found, found_key, some_of, found-map}
 

@@ -1,5 +1,5 @@
 -- What a look of a legal history was answered, in the rules' words.
-use Rattle.std.specs.Prelude.{◌≡◌, ◌+◌, ℕ, List, ◌∷◌, ◌++◌, None, Some, All, length}
+use Rattle.std.specs.Prelude.{◌≡◌, ◌+◌, ℕ, List, ◌∷◌, ◌++◌, Some, All, length}
 use Rattle.q4_table.specs.Oldest.{IsOldest, IsFree}
 use Rattle.q4_machine.specs.declared.looks.Listed.{Listed}
 use Rattle.q4_machine.specs.declared.session.SessionMode.TheVariants.{Empty, Owner}

@@ -1,10 +1,7 @@
-use Rattle.std.proofs.Common.{◌≡◌, Some, sym, subst}
-use Rattle.q4_machine.specs.declared.entry.Call.TheVariants.{Insert}
-use Rattle.q4_machine.specs.declared.entry.Reply.{Reply}
+use Rattle.std.proofs.Common.{sym, subst}
 use Rattle.q4_machine.specs.declared.tables.Opening.{Opening}
 use Rattle.q4_machine.specs.Definitions.{definitions, IsRowFor}
 use Rattle.q4_machine.specs.Machine.{MachineState}
-use Rattle.q4_machine.specs.Step.{step, insert_reply}
 use Rattle.q4_machine.proofs.Defined.{inside_tables}
 use Rattle.q4_machine.proofs.Inserting.{Adds, insert_valid, insert_step}
 use Rattle.q4_machine.proofs.Looking.{indexed}

@@ -3,7 +3,7 @@ use Rattle.q4_machine.specs.Definitions.{IsRowFor}
 use Rattle.q4_machine.specs.Step.{insert_reply}
 use Rattle.q4_machine.specs.History.{definitions_of, IsOpenFor}
 use Rattle.q4_machine.specs.Recorded.{Recorded, HasRoom}
-use Rattle.q4_machine.proofs.Recording.{defined_push, insert_goes}
+use Rattle.q4_machine.proofs.Recording.{insert_goes}
 use Rattle.q4_machine.proofs.recorded.RecordedMachine.insert.Goals as goal
 
 pub invariant_of-self : goal.invariant_of-self

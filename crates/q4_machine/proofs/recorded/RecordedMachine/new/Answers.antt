@@ -1,5 +1,4 @@
-use Rattle.std.proofs.Common.{◌≡◌, ◌∙◌, [], ◌∷◌, map, refl, sym, ap}
-use Rattle.q4_machine.specs.Recorded.{new_opening, opened_new}
+use Rattle.std.proofs.Common.{◌∙◌, [], ap}
 use Rattle.q4_machine.proofs.Opened.{tables_valid, tables_unowned, tables_few, sound_new, defined_new}
 use Rattle.q4_machine.proofs.recorded.RecordedMachine.new.Goals as goal
 
