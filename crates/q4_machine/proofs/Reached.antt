@@ -12,10 +12,12 @@ use Rattle.q4_table.specs.declared.rows.StoredRow.{StoredRow}
 use Rattle.q4_table.specs.Rows.{row_in}
 use Rattle.q4_machine.specs.declared.looks.Listed.{Listed}
 use Rattle.q4_machine.specs.declared.tables.Opening.{Opening}
-use Rattle.q4_machine.specs.Machine.{no_table, table_at}
+use Rattle.q4_machine.specs.Machine.{MachineState, no_table, table_at}
 use Rattle.q4_machine.specs.Step.{step, MayStep}
 use Rattle.q4_machine.specs.Valid.{AreValidTables, IsValid}
-use Rattle.q4_machine.specs.History.{nothing, advance, state_after, AreUnowned, IsNext, IsOpening, IsLegal}
+use Rattle.q4_machine.specs.Definitions.{definitions}
+use Rattle.q4_machine.specs.History.{nothing, advance, state_after, AreUnowned, tables_of, definitions_of, IsNext, IsOpening, IsLegal}
+use Rattle.q4_machine.proofs.Defined.{step_defined}
 use Rattle.q4_machine.specs.Looked.{LookAnswers}
 use Rattle.q4_machine.proofs.Looking.{valid_step, look_answers}
 use Rattle.q4_machine.proofs.Histories.{state_push, cons_head, cons_tail}
@@ -101,3 +103,29 @@ looks_answered history legal [] e later list cut look =
 looks_answered history legal (o ∷ front) e later list cut look =
     let whole = sym legal.whole ∙ cut in
     subst (λ (x : Entry). LookAnswers (state_after (x ∷ front)) (state_after ((x ∷ front) ++ e ∷ [])) e.session list e.reply) (cons_head whole) (look_cut history legal front later e list (cons_tail whole) look)
+
+-- ## The definitions of what is reached
+
+abbrev pub AreOf : Entry → List Entry → Type 0
+AreOf o done = definitions (state_after (o ∷ done)).tables ≡ definitions_of (o ∷ [])
+
+walk_defined : (o : Entry) (done todo : List Entry) → AreOf o done → ((before : List Entry) (e : Entry) (later : List Entry) → todo ≡ before ++ e ∷ later → IsNext (o ∷ (done ++ before)) e) → AreOf o (done ++ todo)
+walk_defined o done [] are each = subst (AreOf o) (sym (append-nil done)) are
+walk_defined o done (e ∷ es) are each =
+    let next : IsNext (o ∷ done) e = subst (λ h. IsNext (o ∷ h) e) (append-nil done) (each [] e es refl) in
+    let here : AreOf o (done ++ e ∷ []) = ap (λ (m : MachineState). definitions m.tables) (state_push (o ∷ done) e) ∙ step_defined (state_after (o ∷ done)) e.session e.call next.may ∙ are in
+    let rest = walk_defined o (done ++ e ∷ []) es here (λ before x later is. subst (λ h. IsNext (o ∷ h) x) (sym (append_assoc done (e ∷ []) before)) (each (e ∷ before) x later (ap (λ xs. e ∷ xs) is))) in
+    subst (AreOf o) (append_assoc done (e ∷ []) es) rest
+
+opened_are : (o : Entry) → IsOpening o → AreOf o []
+opened_are o opens = ap (λ c. definitions (step nothing o.session c).0.tables) opens.call ∙ sym (ap (λ c. definitions (tables_of c)) opens.call)
+
+pub defined_reached : (history : List Entry) → IsLegal history → (front later : List Entry) → history ≡ front ++ later → front ≢ [] → definitions (state_after front).tables ≡ definitions_of history
+defined_reached history legal [] later cut some = absurd (some refl)
+defined_reached history legal (o ∷ front) later cut some =
+    let whole = sym legal.whole ∙ cut in
+    let same : legal.opening ≡ o = cons_head whole in
+    let rest : legal.rest ≡ front ++ later = cons_tail whole in
+    let are = walk_defined legal.opening [] front (opened_are legal.opening legal.opens) (λ before e more is.
+    legal.each before e (more ++ later) (rest ∙ ap (λ xs. xs ++ later) is ∙ append_assoc before (e ∷ more) later)) in
+    ap (λ (x : Entry). definitions (state_after (x ∷ front)).tables) (sym same) ∙ are ∙ sym (ap definitions_of legal.whole)

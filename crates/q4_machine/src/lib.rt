@@ -13,7 +13,7 @@ mod tables;
 
 pub use desk::{Desk, DeskFault, InsertFault, ModeFault};
 pub use entry::{Call, Entry, Refusal, Reply};
-pub use laws::{looks_take_the_oldest, reached_machines_are_valid};
+pub use laws::{definitions_stay, looks_take_the_oldest, reached_machines_are_valid};
 pub use looks::{Listed, Looks};
 pub use machine::Machine;
 pub use one_desk::OneDesk;

@@ -1,6 +1,6 @@
 ghost use Rattle.std.specs.Prelude.{◌≡◌, ◌<◌, ◌≤◌, ◌^◌, [], Some, None, All, length, IfOk, IfErr, OnOk, OnErr};
 ghost use Rattle.std.specs.Option.{option_map, ForSome};
-ghost use Rattle.q4_table.specs.Adding.{check_of};
+ghost use Rattle.q4_table.specs.Adding.{check_of, IsRefused};
 ghost use Rattle.q4_machine.specs.declared.entry.Call.TheVariants as call;
 ghost use Rattle.q4_machine.specs.declared.entry.Reply.TheVariants as reply;
 ghost use Rattle.q4_machine.specs.Definitions.{definitions, IsRowFor, IsListed};
@@ -116,6 +116,7 @@ impl Machine {
         requires is_open { IsSessionOpen self.old session }
         requires row { IsRowFor (definitions self.old.tables) table row }
         ensures step { ForSome (insert_reply result) (λ reply. step self.old session (call.Insert table row) ≡ (self.new, reply)) }
+        ensures refused { IfErr result (λ fault. IsRefused (check_of (table_at self.old.tables table) row None) fault.0) }
         ensures kept { OnErr result (self.new ≡ self.old) }
         ensures given_back { IfErr result (λ fault. fault.1 ≡ row) }
     {

@@ -239,8 +239,8 @@ fn two_sessions(rt: HostRuntime) {
     let mut desk = OneDesk::new(alloc, defs_of(&rt, alloc, b"")).expect(&rt, "memory");
     session(&rt, alloc, &mut desk, 1, &FIRST);
     session(&rt, alloc, &mut desk, 2, &SECOND);
-    reached_machines_are_valid(desk.history());
-    looks_take_the_oldest(desk.history());
+    reached_machines_are_valid();
+    looks_take_the_oldest();
     assert_eq!(rt; desk.history().len(), HISTORY.len());
     for (entry, (session, call, number, reply)) in desk.history().iter().zip(&HISTORY) {
         assert_eq!(rt; call_of(entry), (*call, *number));
