@@ -3,3 +3,4 @@ pub mod Values
 pub mod Named
 pub mod Refusing
 pub mod Waiting
+pub mod Apart

@@ -76,7 +76,7 @@ into_it defs args values field place into = record {
 }
 
 -- any other reading of the fields is the same one
-into_same : (defs : List TableDef) (args values : List (List ℕ)) (field : List ℕ) (place : ℕ) → Into defs args values field place → (q : ℕ) (others : List (List ℕ)) → IsInsertInto defs args q others → (q ≡ place) × (others ≡ values)
+pub into_same : (defs : List TableDef) (args values : List (List ℕ)) (field : List ℕ) (place : ℕ) → Into defs args values field place → (q : ℕ) (others : List (List ℕ)) → IsInsertInto defs args q others → (q ≡ place) × (others ≡ values)
 into_same defs args values field place into q others other =
     let lists = sym other.args_are ∙ into.args_are in
     let name_is : other.name ≡ field = sym (escaped_name other.name (found_name defs q other.name into.are other.is_table)) ∙ cons_head lists in

@@ -25,7 +25,7 @@ use Rattle.q4_proto.proofs.Values.{all_at}
 abbrev first_of_one : {X : Type 0} (P : X → Type 0) (x : X) → P x → IsFirst P (x ∷ []) 1
 first_of_one P x holds = record { before = []; found = x; after = []; cut = refl; place_is = omega arith; none_before = All-nil (λ y. P y → ⊥); holds = holds }
 
-one_is : {X : Type 0} (P : X → Type 0) (x : X) (k : ℕ) (first : IsFirst P (x ∷ []) k) → first.found ≡ x
+pub one_is : {X : Type 0} (P : X → Type 0) (x : X) (k : ℕ) (first : IsFirst P (x ∷ []) k) → first.found ≡ x
 one_is P x k first = all_at (λ y. y ≡ x) (x ∷ []) first.before first.after first.found (All-cons (λ y. y ≡ x) x [] refl (All-nil (λ y. y ≡ x))) first.cut
 
 before_escape : (defs : List TableDef) (field : List ℕ) → (BeginsEqual field → ⊥) → NoneBefore defs Wait (field ∷ []) 4
@@ -73,7 +73,7 @@ table_found : (defs : List TableDef) (field entry name text : List ℕ) (place :
 table_found defs field entry name text place spells cut is k first =
     first.holds name (entry, one_is (IsOfNoTable defs Wait) field k first ∙ spells, cut.front) (found_contained defs place name is)
 
-before_condition : (defs : List TableDef) (field entry name text : List ℕ) (place : ℕ) → (BeginsEqual field → ⊥) → field ≡ escaped entry → IsCut entry name text → slice_get (names_of defs) place ≡ Some name → NoneBefore defs Wait (field ∷ []) 6
+pub before_condition : (defs : List TableDef) (field entry name text : List ℕ) (place : ℕ) → (BeginsEqual field → ⊥) → field ≡ escaped entry → IsCut entry name text → slice_get (names_of defs) place ≡ Some name → NoneBefore defs Wait (field ∷ []) 6
 before_condition defs field entry name text place built spells cut is NotText lower stands = before_table defs field entry built spells NotText (omega arith) stands
 before_condition defs field entry name text place built spells cut is Unknown lower stands = before_table defs field entry built spells Unknown (omega arith) stands
 before_condition defs field entry name text place built spells cut is NotBuilt lower stands = before_table defs field entry built spells NotBuilt (omega arith) stands

@@ -5,11 +5,13 @@ mod command;
 mod fields;
 mod insert;
 mod keyword;
+mod laws;
 mod line_buffer;
 mod reply;
 mod wait;
 
 pub use command::{Command, CommandFault, read_command};
+pub use laws::spelled_lines_are_not_refused;
 pub use reply::{Code, Outcome, put_reply, refusal_of};
 
 #[cfg(test)]
