@@ -1,6 +1,6 @@
 -- What came of the definitions, with what was done then.
-use Rattle.std.proofs.Common.{◌≡◌, ◌<◌, ◌≤◌, ◌⊎◌, List, ℕ, Option, Result, Ok, Err, inl, inr, refl, subst, arith}
-use Rattle.q4_flow.specs.Flow.{Gave}
+use Rattle.std.proofs.Common.{◌≡◌, ◌≢◌, ◌<◌, ◌≤◌, ◌⊎◌, List, ℕ, Option, Result, Ok, Err, inl, inr, refl, subst, arith}
+use Rattle.q4_flow.specs.Flow.{Gave, Rose}
 use Rattle.q4_def.specs.declared.table_def.TableDef.{TableDef}
 use Rattle.q4_tool.specs.declared.definitions.Undefined.{Undefined}
 use Rattle.q4_tool.specs.declared.definitions.Undefined.TheVariants.{Faulty, TooLong, ReadFault, Memory}
@@ -15,21 +15,31 @@ gave_some left left' ended failed (Err TooLong) are = (are.bytes, are.gave)
 gave_some left left' ended failed (Err ReadFault) are = (are.bytes, are.gave)
 gave_some left left' ended failed (Err Memory) gave = gave
 
+no_fault : (faults faults' : ℕ) (defs : List TableDef) → (faults' ≡ faults) ⊎ (◌≡◌ {A = Result (List TableDef) Undefined} (Ok defs) (Err ReadFault)) → faults' ≡ faults
+no_fault faults faults' defs (inl same) = same
+no_fault faults faults' defs (inr is) = cc is
+
+other_fault : (faults faults' : ℕ) (why : Undefined) → why ≢ ReadFault → (faults' ≡ faults) ⊎ (◌≡◌ {A = Result (List TableDef) Undefined} (Err why) (Err ReadFault)) → faults' ≡ faults
+other_fault faults faults' why other (inl same) = same
+other_fault faults faults' why other (inr is) = absurd (other (cc is))
+
 -- definitions came, and the session ran or wanted memory
-pub ran_defined : (text text' : Option (List ℕ)) (text_ended text_failed : Type 0) (left left' : Option (List ℕ)) (ended : Type 0) (written written' : Option (List ℕ)) (status : ℕ) (defs : List TableDef)
-    → Comes text text' text_ended text_failed (Ok defs) → Ran defs left left' ended written written' status ⊎ Says (undefined_line Memory) 9 left left' written written' status
-    → RunsDefined text text' text_ended text_failed left left' ended written written' status
-ran_defined text text' text_ended text_failed left left' ended written written' status defs comes (inl ran) = record { came = Ok defs; comes = comes; runs = ran }
-ran_defined text text' text_ended text_failed left left' ended written written' status defs comes (inr says) =
-    record { came = Err Memory; comes = gave_some text text' text_ended text_failed (Ok defs) comes; runs = says }
+pub ran_defined : (text text' : Option (List ℕ)) (text_ended : Type 0) (faults faults' : ℕ) (left left' : Option (List ℕ)) (ended : Type 0) (written written' : Option (List ℕ)) (status : ℕ) (defs : List TableDef)
+    → Comes text text' text_ended (Rose faults faults') (Ok defs) → (faults' ≡ faults) ⊎ (◌≡◌ {A = Result (List TableDef) Undefined} (Ok defs) (Err ReadFault))
+    → Ran defs left left' ended written written' status ⊎ Says (undefined_line Memory) 9 left left' written written' status
+    → RunsDefined text text' text_ended faults faults' left left' ended written written' status
+ran_defined text text' text_ended faults faults' left left' ended written written' status defs comes stayed (inl ran) = record { came = Ok defs; comes = comes; stayed = stayed; runs = ran }
+ran_defined text text' text_ended faults faults' left left' ended written written' status defs comes stayed (inr says) =
+    record { came = Err Memory; comes = gave_some text text' text_ended (Rose faults faults') (Ok defs) comes; stayed = inl (no_fault faults faults' defs stayed); runs = says }
 
 -- none came, and it was said why, or memory was wanted
-pub refused_defined : (text text' : Option (List ℕ)) (text_ended text_failed : Type 0) (left : Option (List ℕ)) (ended : Type 0) (written written' : Option (List ℕ)) (status : ℕ) (why : Undefined)
-    → Comes text text' text_ended text_failed (Err why) → Prints (undefined_line why) (undefined_status why) written written' status ⊎ Prints (undefined_line Memory) 9 written written' status
-    → RunsDefined text text' text_ended text_failed left left ended written written' status
-refused_defined text text' text_ended text_failed left ended written written' status why comes (inl prints) = record { came = Err why; comes = comes; runs = (refl, prints) }
-refused_defined text text' text_ended text_failed left ended written written' status why comes (inr prints) =
-    record { came = Err Memory; comes = gave_some text text' text_ended text_failed (Err why) comes; runs = (refl, prints) }
+pub refused_defined : (text text' : Option (List ℕ)) (text_ended : Type 0) (faults faults' : ℕ) (left : Option (List ℕ)) (ended : Type 0) (written written' : Option (List ℕ)) (status : ℕ) (why : Undefined)
+    → Comes text text' text_ended (Rose faults faults') (Err why) → (faults' ≡ faults) ⊎ (◌≡◌ {A = Result (List TableDef) Undefined} (Err why) (Err ReadFault))
+    → Prints (undefined_line why) (undefined_status why) written written' status ⊎ ((why ≢ ReadFault) × Prints (undefined_line Memory) 9 written written' status)
+    → RunsDefined text text' text_ended faults faults' left left ended written written' status
+refused_defined text text' text_ended faults faults' left ended written written' status why comes stayed (inl prints) = record { came = Err why; comes = comes; stayed = stayed; runs = (refl, prints) }
+refused_defined text text' text_ended faults faults' left ended written written' status why comes stayed (inr prints) =
+    record { came = Err Memory; comes = gave_some text text' text_ended (Rose faults faults') (Err why) comes; stayed = inl (other_fault faults faults' why prints.0 stayed); runs = (refl, prints.1) }
 
 -- a source whose count rose failed
 pub rose_unread : (why : Undefined) (before now : ℕ) → (now ≡ before) ⊎ (◌≡◌ {A = Result (List TableDef) Undefined} (Err why) (Err ReadFault)) → before < now → why ≡ ReadFault

@@ -1,12 +1,13 @@
 -- What the program does.
 use Rattle.std.specs.Prelude.{◌≡◌, ◌∷◌, ◌⊎◌, [], ℕ, List, Option, Result, Ok, Err, All, String, codes, string_bytes}
 use Rattle.std.specs.declared.alloc.Global.{Global}
-use Rattle.q4_flow.specs.Flow.{Took, TookFront}
+use Rattle.q4_flow.specs.Flow.{Rose, Took, TookFront}
 use Rattle.q4_def.specs.declared.table_def.TableDef.{TableDef}
 use Rattle.q4_machine.specs.declared.entry.Entry.{Entry}
 use Rattle.q4_machine.specs.History.{IsLegal, IsSettled, SyncsAreOwed}
 use Rattle.q4_machine.specs.Recorded.{opened_new}
 use Rattle.q4_tool.specs.declared.definitions.Undefined.{Undefined}
+use Rattle.q4_tool.specs.declared.definitions.Undefined.TheVariants.{ReadFault}
 use Rattle.q4_tool.specs.declared.sessions.SessionEnd.{SessionEnd}
 use Rattle.q4_tool.specs.declared.sessions.SessionEnd.TheVariants as end
 use Rattle.q4_tool.specs.Sessions.{Session}
@@ -53,8 +54,9 @@ abbrev pub Runs : Result (List TableDef) Undefined → Option (List ℕ) → Opt
 Runs (Ok defs) left left' ended written written' status = Ran defs left left' ended written written' status
 Runs (Err why) left left' ended written written' status = Says (undefined_line why) (undefined_status why) left left' written written' status
 
--- What came of the source of definitions, and what `run` did.
-pub record RunsDefined (text text' : Option (List ℕ)) (text_ended text_failed : Type 0) (left left' : Option (List ℕ)) (ended : Type 0) (written written' : Option (List ℕ)) (status : ℕ) : Type 0 where
+-- What came of the source of definitions, which failed as often as these counts say, and what `run` did.
+pub record RunsDefined (text text' : Option (List ℕ)) (text_ended : Type 0) (faults faults' : ℕ) (left left' : Option (List ℕ)) (ended : Type 0) (written written' : Option (List ℕ)) (status : ℕ) : Type 0 where
   pub came : Result (List TableDef) Undefined
-  pub comes : Comes text text' text_ended text_failed came
+  pub comes : Comes text text' text_ended (Rose faults faults') came
+  pub stayed : (faults' ≡ faults) ⊎ (came ≡ Err ReadFault)
   pub runs : Runs came left left' ended written written' status

@@ -25,10 +25,10 @@ pub fn tool<S: Source, F: Source, W: Sink>(
     output: &mut W,
 ) -> u8
     ensures run { AreRun words.now → RunsDefined
-        (F.left definitions.old) (F.left definitions.new) (IsTrue (F.ended definitions.new)) (Rose (F.faults definitions.old) (F.faults definitions.new))
+        (F.left definitions.old) (F.left definitions.new) (IsTrue (F.ended definitions.new)) (F.faults definitions.old) (F.faults definitions.new)
         (S.left input.old) (S.left input.new) (IsTrue (S.ended input.new)) (W.written output.old) (W.written output.new) result }
     ensures other { (AreRun words.now → ⊥) → Says (codes "words\n") 2 (S.left input.old) (S.left input.new) (W.written output.old) (W.written output.new) result }
-    ensures unread { (AreRun words.now → ⊥) → F.left definitions.new ≡ F.left definitions.old }
+    ensures unread { (AreRun words.now → ⊥) → (input.new ≡ input.old) × (definitions.new ≡ definitions.old) }
     ensures read_fault { result ≡ 8 → Rose (S.faults input.old) (S.faults input.new) ⊎ Rose (F.faults definitions.old) (F.faults definitions.new) }
     ensures read_faults { S.faults input.old < S.faults input.new → result ≡ 8 }
     ensures read_later { S.faults input.old ≤ S.faults input.new }
@@ -71,7 +71,7 @@ fn run<S: Source, W: Sink>(alloc: Global, defs: Defs, input: &mut S, output: &mu
 // Says why there are no definitions.
 fn refuse<W: Sink>(alloc: Global, why: Undefined, output: &mut W) -> u8
     ensures said { Prints (undefined_line why) (undefined_status why) (W.written output.old) (W.written output.new) result
-        ⊎ Prints (undefined_line undefined.Memory) 9 (W.written output.old) (W.written output.new) result }
+        ⊎ ((why ≢ undefined.ReadFault) × Prints (undefined_line undefined.Memory) 9 (W.written output.old) (W.written output.new) result) }
     ensures read_fault { result ≡ 8 → why ≡ undefined.ReadFault }
     ensures read_faults { why ≡ undefined.ReadFault → (result ≡ 8) ⊎ (result ≡ 7) }
     ensures write_fault { result ≡ 7 → Rose (W.faults output.old) (W.faults output.new) }
