@@ -1,5 +1,5 @@
 -- What the calls of a desk need of a command that was read.
-use Rattle.std.proofs.Common.{◌≡◌, ◌<◌, ◌∷◌, [], List, ℕ, Some, Ok, All, length, slice_get, sym, subst}
+use Rattle.std.proofs.Common.{◌≡◌, ◌<◌, [], List, ℕ, Some, Ok, All, length, slice_get, sym, subst}
 use Rattle.std.proofs.lemmas.List.{length-map}
 use Rattle.std.proofs.lemmas.List.Elements.{All-push, All-nil}
 use Rattle.std.proofs.lemmas.Option.{slice_get_within}

@@ -1,18 +1,17 @@
 -- A conversation that goes on by a line, and that ends.
-use Rattle.std.proofs.Common.{◌≡◌, ◌≢◌, ◌<◌, ◌≤◌, ◌+◌, ◌++◌, ◌∷◌, ◌∙◌, ◌⊎◌, [], List, ℕ, Option, Some, None, Result, Ok, Err, All, length, take, refl, sym, ap, subst, inl, inr, append_assoc, append-nil}
+use Rattle.std.proofs.Common.{◌≡◌, ◌≢◌, ◌++◌, ◌∷◌, ◌∙◌, ◌⊎◌, [], List, ℕ, Option, None, Err, All, refl, sym, ap, subst, inl, inr, append_assoc, append-nil}
 use Rattle.std.specs.List.{flat_map}
 use Rattle.std.proofs.lemmas.List.Elements.{All-push, All-nil}
 use Rattle.q4_flow.specs.declared.lines.LineEnd.{LineEnd}
 use Rattle.q4_flow.specs.declared.lines.LineEnd.TheVariants as line
-use Rattle.q4_flow.specs.Flow.{Rose, Gave, Took, IsFront, TookFront}
-use Rattle.q4_flow.specs.Lines.{Cuts, Takes, Next, NextFrom, IsOneLine, IsOpenLine, line_limit}
+use Rattle.q4_flow.specs.Flow.{Gave, Took, TookFront}
+use Rattle.q4_flow.specs.Lines.{Cuts, Takes, Next, NextFrom, IsOpenLine}
 use Rattle.q4_flow.specs.Reading.{Reading}
 use Rattle.q4_flow.proofs.Known.{gave_nothing, gave_more, took_nothing, took_more}
 use Rattle.q4_def.specs.declared.table_def.TableDef.{TableDef}
 use Rattle.q4_machine.specs.declared.entry.Entry.{Entry}
 use Rattle.q4_machine.specs.declared.desk.DeskFault.TheVariants as fault
 use Rattle.q4_machine.specs.Parts.{Grows, IsOpened}
-use Rattle.q4_proto.specs.declared.reply.Outcome.{Outcome}
 use Rattle.q4_proto.specs.declared.reply.Outcome.TheVariants as outcome
 use Rattle.q4_proto.specs.Text.{text}
 use Rattle.q4_tool.specs.declared.sessions.Answered.{Answered}
@@ -20,8 +19,8 @@ use Rattle.q4_tool.specs.declared.sessions.Answered.TheVariants as answered
 use Rattle.q4_tool.specs.declared.sessions.SessionEnd.{SessionEnd}
 use Rattle.q4_tool.specs.declared.sessions.SessionEnd.TheVariants as end
 use Rattle.q4_tool.specs.Exchanges.{Exchange, IsExchange, AreExchanges, grown_by, lines_of, texts_of, GoesOn}
-use Rattle.q4_tool.specs.Sessions.{InputEnds, last_words, WroteFront, ReplyCut, LastWordsCut, Concludes, Conversation, WroteRefusal, RefusedSession, WriteCause}
-use Rattle.q4_tool.specs.Answering.{Told, Answering, TellCause, LastReply, LastCause}
+use Rattle.q4_tool.specs.Sessions.{InputEnds, last_words, WroteFront, Concludes, Conversation, WroteRefusal, RefusedSession}
+use Rattle.q4_tool.specs.Answering.{Answering, TellCause, LastReply}
 
 -- The lines so far, none of them `bye`, and the bytes that are pending.
 pub record Conversing (defs : List TableDef) (caller session : ℕ) (seen seen' : List Entry) (left left' : Option (List ℕ)) (pending : List ℕ) (written written' : Option (List ℕ)) : Type 0 where

@@ -1,6 +1,6 @@
 -- What came of the definitions, with what was done then.
-use Rattle.std.proofs.Common.{◌≡◌, ◌≢◌, ◌<◌, ◌≤◌, ◌⊎◌, List, ℕ, Option, Result, Ok, Err, inl, inr, refl, subst, arith}
-use Rattle.q4_flow.specs.Flow.{Gave, Rose}
+use Rattle.std.proofs.Common.{◌≡◌, ◌≢◌, ◌<◌, ◌⊎◌, List, ℕ, Option, Result, Ok, Err, inl, inr, refl, arith}
+use Rattle.q4_flow.specs.Flow.{Rose}
 use Rattle.q4_def.specs.declared.table_def.TableDef.{TableDef}
 use Rattle.q4_tool.specs.declared.definitions.Undefined.{Undefined}
 use Rattle.q4_tool.specs.declared.definitions.Undefined.TheVariants.{Faulty, TooLong, ReadFault, Memory}

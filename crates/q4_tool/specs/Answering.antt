@@ -10,7 +10,7 @@ use Rattle.q4_tool.specs.declared.sessions.Answered.{Answered}
 use Rattle.q4_tool.specs.declared.sessions.Answered.TheVariants as answered
 use Rattle.q4_tool.specs.declared.sessions.SessionEnd.{SessionEnd}
 use Rattle.q4_tool.specs.declared.sessions.SessionEnd.TheVariants as end
-use Rattle.q4_tool.specs.Exchanges.{Exchange, IsExchange}
+use Rattle.q4_tool.specs.Exchanges.{IsExchange}
 
 -- what was written of an outcome
 abbrev pub Told : Option (List ℕ) → Option (List ℕ) → Outcome → Answered → Type 0

@@ -1,5 +1,5 @@
 -- What a session does, from its opening to its closing.
-use Rattle.std.specs.Prelude.{◌≡◌, ◌≢◌, ◌≤◌, ◌<◌, ◌++◌, ◌∷◌, ◌⊎◌, [], ℕ, List, Option, Ok, All, take, length, codes}
+use Rattle.std.specs.Prelude.{◌≡◌, ◌≢◌, ◌≤◌, ◌<◌, ◌++◌, ◌∷◌, ◌⊎◌, [], ℕ, List, Option, Ok, All, take, length}
 use Rattle.q4_flow.specs.Flow.{Rose, Gave, Took, IsFront}
 use Rattle.q4_flow.specs.Lines.{IsOneLine, IsOpenLine, line_limit}
 use Rattle.q4_def.specs.declared.table_def.TableDef.{TableDef}

@@ -1,4 +1,4 @@
-use Rattle.std.proofs.Common.{◌≡◌, ◌∙◌, List, ℕ, inl, sym, subst}
+use Rattle.std.proofs.Common.{◌∙◌, List, ℕ, inl, sym, subst}
 use Rattle.q4_tool.specs.declared.definitions.Undefined.{Undefined}
 use Rattle.q4_tool.specs.Definitions.{undefined_line, undefined_status}
 use Rattle.q4_tool.specs.Tool.{Prints}

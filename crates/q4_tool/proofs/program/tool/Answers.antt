@@ -1,6 +1,3 @@
-use Rattle.std.proofs.Common.{◌≡◌, ◌⊎◌, Ok, Err, subst}
-use Rattle.q4_tool.specs.declared.definitions.Undefined.TheVariants.{ReadFault}
-use Rattle.q4_tool.specs.Definitions.{Comes}
 use Rattle.q4_tool.proofs.Running.{ran_defined, refused_defined, rose_unread}
 use Rattle.q4_tool.proofs.program.tool.Goals as goal
 

@@ -1,8 +1,7 @@
-use Rattle.std.proofs.Common.{◌≡◌, [], List, Ok, Err, All, refl, sym, subst, append-nil}
-use Rattle.q4_def.specs.declared.table_def.TableDef.{TableDef}
+use Rattle.std.proofs.Common.{[], Ok, Err, All, refl, sym, subst, append-nil}
 use Rattle.q4_machine.specs.Definitions.{IsListed}
 use Rattle.q4_proto.specs.declared.reply.Outcome.TheVariants as outcome
-use Rattle.q4_proto.specs.declared.command.Command.TheVariants.{Quit, Wait}
+use Rattle.q4_proto.specs.declared.command.Command.TheVariants.{Quit}
 use Rattle.q4_proto.specs.Commands.{Reads}
 use Rattle.q4_tool.specs.Exchanges.{fault_outcome}
 use Rattle.q4_tool.specs.Answering.{Told}

@@ -1,4 +1,4 @@
-use Rattle.std.proofs.Common.{◌≡◌, ◌≢◌, ◌∙◌, [], List, ℕ, Some, None, refl, sym, ap, subst, arith, IsTrue}
+use Rattle.std.proofs.Common.{◌∙◌, [], List, ℕ, refl, sym, ap, subst}
 use Rattle.q4_flow.specs.declared.lines.LineEnd.TheVariants as line
 use Rattle.q4_flow.specs.Reading.{Reading}
 use Rattle.q4_flow.specs.Lines.{IsOpenLine}

@@ -1,4 +1,4 @@
-use Rattle.std.proofs.Common.{◌≡◌, ◌≤◌, ℕ, Some, None}
+use Rattle.std.proofs.Common.{◌≡◌, ℕ, Some, None}
 use Rattle.q4_flow.specs.Lines.{fuel}
 use Rattle.q4_machine.specs.History.{definitions_of}
 use Rattle.q4_machine.specs.Parts.{IsInOrder}
