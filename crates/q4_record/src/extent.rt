@@ -1,4 +1,3 @@
-ghost use Rattle.std.specs.Prelude.{◌≡◌};
 ghost use Rattle.q4_record.specs.Extents.{IsValueExtent, IsRowExtent};
 
 use crate::fields::{take_length, take_signed};

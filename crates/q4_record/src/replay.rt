@@ -8,7 +8,7 @@ ghost use Rattle.q4_table.specs.declared.origin.Origin.{Origin as RowOrigin};
 ghost use Rattle.q4_table.specs.Valid.{IsMark};
 ghost use Rattle.q4_record.specs.Wide.{is_long};
 ghost use Rattle.q4_record.specs.Replay.{MayForward, MayInsert, MayEnd, MayMark, MayNext, MayCome, table_after, replayed, passed_limit};
-ghost use Rattle.q4_record.specs.Parts.{IsReady, RowStands, RowFails, RowPasses, NoRow, RecordStood, RecordFailed, SectionStood, SectionFailed};
+ghost use Rattle.q4_record.specs.Parts.{IsReady, RowStands, RowFails, RecordStood, RecordFailed, SectionStood, SectionFailed};
 
 use crate::extent::{Extent, row_extent};
 use crate::head::{Head, read_head};

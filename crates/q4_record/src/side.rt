@@ -11,7 +11,7 @@ ghost use Rattle.q4_record.specs.Faults.{EndsInBatch, SideFails};
 ghost use Rattle.q4_record.specs.Parts.{IsReady};
 ghost use Rattle.q4_record.specs.SideParts.{HeaderFailed, BaseFailed, BatchesRead, BatchesFailed};
 
-use crate::fields::{take_length, take_number};
+use crate::fields::take_length;
 use crate::replay::{Replay, Stage};
 use crate::schema::read_schema;
 use q4_table::Table;

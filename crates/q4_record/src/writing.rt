@@ -1,7 +1,6 @@
-ghost use Rattle.std.specs.Prelude.{◌≡◌, ◌^◌, ◌<◌, ◌++◌, ◌∷◌, [], List, ℕ, All, length, OnOk, OnErr};
+ghost use Rattle.std.specs.Prelude.{◌≡◌, ◌^◌, ◌<◌, ◌++◌, [], List, ℕ, All, length, OnOk, OnErr};
 ghost use Rattle.std.specs.Int.{w64, to_be_bytes};
 ghost use Rattle.q4_value.specs.Row.{IsValue, row_size as size_of};
-ghost use Rattle.q4_table.specs.Adding.{IsOrigin};
 ghost use Rattle.q4_record.specs.Record.{mode_byte as byte_of_mode, head_bytes, record_bytes};
 ghost use Rattle.q4_record.specs.Schema.{IsSchema, kind_byte as byte_of_kind, column_bytes, schema_bytes};
 
