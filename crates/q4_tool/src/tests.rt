@@ -489,6 +489,28 @@ fn long_lines(rt: HostRuntime) {
     }
 }
 
+const ONE_TEXT: &[u8] = b"[[table]]\nname = \"notes\"\ncolumns = [\"note text\"]\n";
+
+// A text alone in its row may be as long as in any other row.
+#[test]
+fn long_texts_alone(rt: HostRuntime) {
+    let alloc = rt.alloc();
+    for (count, replies) in [
+        (65_535, b"ok\t1\n".as_slice()),
+        (65_536, b"err\t22\tbad value\t1\n"),
+    ] {
+        let input = long_input(&rt, alloc, b"insert\tnotes\t", count, b"\n");
+        let talk = Talk {
+            definitions: ONE_TEXT,
+            input: &input,
+            replies,
+            end: SessionEnd::Ended,
+            status: 0,
+        };
+        check_run(&rt, alloc, &talk);
+    }
+}
+
 const SIXTEEN_TEXTS: &[u8] =
     b"[[table]]\nname = \"texts\"\ncolumns = [\"a text\", \"b text\", \"c text\", \"d text\", \"e text\", \"f text\", \"g text\", \"h text\", \"i text\", \"j text\", \"k text\", \"l text\", \"m text\", \"n text\", \"o text\", \"p text\"]\n";
 
