@@ -1,24 +1,18 @@
 -- What the calls of a desk need of a command that was read.
-use Rattle.std.proofs.Common.{◌≡◌, ◌<◌, [], List, ℕ, Some, Ok, All, length, slice_get, sym, subst}
-use Rattle.std.proofs.lemmas.List.{length-map}
+use Rattle.std.proofs.Common.{[], List, ℕ, Ok, All, sym, subst}
 use Rattle.std.proofs.lemmas.List.Elements.{All-push, All-nil}
-use Rattle.std.proofs.lemmas.Option.{slice_get_within}
 use Rattle.q4_def.specs.declared.table_def.TableDef.{TableDef}
-use Rattle.q4_def.specs.Tables.{names_of}
 use Rattle.q4_machine.specs.declared.looks.Listed.{Listed}
 use Rattle.q4_machine.specs.Definitions.{IsListed}
 use Rattle.q4_proto.specs.declared.command.Command.TheVariants.{Wait}
 use Rattle.q4_proto.specs.declared.keyword.Keyword.{Keyword}
 use Rattle.q4_proto.specs.declared.keyword.Keyword.TheVariants as word
 use Rattle.q4_proto.specs.Commands.{Reads, Spells, SpellsEntry}
-
--- a place that has a name has a table
-named_within : (defs : List TableDef) (place : ℕ) (name : List ℕ) → slice_get (names_of defs) place ≡ Some name → place < length defs
-named_within defs place name is = subst (λ count. place < count) (length-map defs (λ (def : TableDef). def.name)) (slice_get_within (names_of defs) place name is)
+use Rattle.q4_proto.proofs.Named.{found_inside}
 
 spelled_listed : (defs : List TableDef) (field : List ℕ) (listed : Listed) → SpellsEntry defs field listed → IsListed defs listed
 spelled_listed defs field listed spells = record {
-  inside = named_within defs listed.table spells.name spells.is_table;
+  inside = found_inside defs listed.table spells.name spells.is_table;
   kinds = spells.cond_is.kinds;
 }
 
