@@ -14,11 +14,11 @@ use Rattle.q4_machine.specs.declared.session.SessionMode.TheVariants.{NonOwner, 
 use Rattle.q4_machine.specs.declared.looks.Listed.{Listed}
 use Rattle.q4_machine.specs.declared.tables.Opening.{Opening}
 use Rattle.q4_machine.specs.declared.entry.Call.{Call}
-use Rattle.q4_machine.specs.declared.entry.Call.TheVariants.{Opened, Open, Insert, Look, End, Close, Sync}
+use Rattle.q4_machine.specs.declared.entry.Call.TheVariants.{Opened, Open, Insert, Look, End, Abort, RowId, Select, Close, Sync}
 use Rattle.q4_machine.specs.Definitions.{definition_of, definitions, columns_at, IsListed}
 use Rattle.q4_machine.specs.Machine.{MachineState, no_table, opening_at, table_at, mode_of}
 use Rattle.q4_machine.specs.Pick.{Picked, pick}
-use Rattle.q4_machine.specs.Step.{step, MayStep, with_table, inserted, looked, ended, closed}
+use Rattle.q4_machine.specs.Step.{step, MayStep, with_table, inserted, looked, ended, aborted, closed}
 
 -- ## A table's columns, by its place
 
@@ -55,6 +55,12 @@ ended_defined m s (Some Empty) = refl
 ended_defined m s (Some (Owner t n)) = defined_table m t _ refl
 ended_defined m s None = refl
 
+aborted_defined : (m : MachineState) (s : ℕ) (o : Option SessionMode) → definitions (aborted m s o).0.tables ≡ definitions m.tables
+aborted_defined m s (Some NonOwner) = refl
+aborted_defined m s (Some Empty) = refl
+aborted_defined m s (Some (Owner t n)) = defined_table m t _ refl
+aborted_defined m s None = refl
+
 closed_defined : (m : MachineState) (s : ℕ) (o : Option SessionMode) → definitions (closed m s o).0.tables ≡ definitions m.tables
 closed_defined m s (Some NonOwner) = refl
 closed_defined m s (Some Empty) = refl
@@ -68,5 +74,8 @@ step_defined m s Open may = refl
 step_defined m s (Insert t row) may = inserted_defined m t row (check_of (table_at m.tables t) row None)
 step_defined m s (Look list) may = looked_defined m s (pick m list)
 step_defined m s End may = ended_defined m s (mode_of m s)
+step_defined m s Abort may = aborted_defined m s (mode_of m s)
+step_defined m s RowId may = refl
+step_defined m s (Select t most) may = refl
 step_defined m s Close may = closed_defined m s (mode_of m s)
 step_defined m s Sync may = refl

@@ -1,70 +1,139 @@
 -- Each call of a desk in memory: the desk afterwards, and the part that the call added.
-use Rattle.std.proofs.Common.{◌≡◌, ◌≤◌, ◌++◌, ◌∷◌, ◌∙◌, [], List, ℕ, true, false, Option, Some, None, Result, Ok, Err, OnErr, All, length, unwrap_or, refl, sym, ap, subst, arith, append_assoc, append-nil}
+use Rattle.std.proofs.Common.{◌≡◌, ◌≢◌, ◌≤◌, ◌<◌, ◌+◌, ◌++◌, ◌∷◌, ◌∙◌, ◌⊎◌, [], List, ℕ, Bool, true, false, Option, Some, None, Result, Ok, Err, IfErr, All, length, refl, sym, ap, subst, arith, inl, inr, append_assoc, append-nil}
+use Rattle.std.proofs.lemmas.Bool.{cases_lt}
 use Rattle.std.proofs.lemmas.List.{length-append}
-use Rattle.std.proofs.lemmas.List.Elements.{All-nil, All-cons}
+use Rattle.std.proofs.lemmas.List.Elements.{All-nil, All-cons, All-head, All-tail}
 use Rattle.q4_value.specs.declared.row.Value.{Value}
 use Rattle.q4_machine.specs.declared.entry.Entry.{Entry}
 use Rattle.q4_machine.specs.declared.entry.Call.{Call}
-use Rattle.q4_machine.specs.declared.entry.Call.TheVariants.{Open, Insert, Look, End, Close, Sync}
-use Rattle.q4_machine.specs.declared.entry.Refusal.{Refusal}
+use Rattle.q4_machine.specs.declared.entry.Call.TheVariants.{Open, Insert, Look, End, Select, Close, Sync}
 use Rattle.q4_machine.specs.declared.entry.Refusal.TheVariants as refusal
 use Rattle.q4_machine.specs.declared.entry.Reply.{Reply}
 use Rattle.q4_machine.specs.declared.entry.Reply.TheVariants as reply
 use Rattle.q4_machine.specs.declared.session.SessionMode.{SessionMode}
 use Rattle.q4_machine.specs.declared.session.SessionMode.TheVariants.{NonOwner, Empty, Owner}
+use Rattle.q4_machine.specs.declared.shown.NumberedRow.{NumberedRow}
 use Rattle.q4_machine.specs.Machine.{mode_of}
 use Rattle.q4_table.specs.declared.adding.Added.TheVariants.{Seen}
 use Rattle.q4_machine.specs.declared.looks.Listed.{Listed}
-use Rattle.q4_machine.specs.declared.desk.DeskFault.TheVariants.{Memory}
+use Rattle.q4_machine.specs.declared.desk.DeskFault.{DeskFault}
+use Rattle.q4_machine.specs.declared.desk.DeskFault.TheVariants as desk_fault
 use Rattle.q4_machine.specs.declared.desk.InsertFault.{InsertFault}
 use Rattle.q4_machine.specs.declared.desk.InsertFault.TheVariants as insert_fault
-use Rattle.q4_machine.specs.Step.{end_reply, look_reply}
-use Rattle.q4_machine.specs.History.{state_after, is_added, is_owner, IsSettled, SyncsAreOwed, IsOpenFor}
-use Rattle.q4_machine.specs.Parts.{calls_of, Answer, Replied, WantsMemory, ends_first, ending, IsPart, IsInOrder, Grows, IsOpened, IsClosed, insert_answer, wait_answer}
-use Rattle.q4_machine.specs.Recorded.{Recorded, DeskState, entry, pushed, answered, HasRoom, IsSound}
+use Rattle.q4_machine.specs.Step.{look_reply}
+use Rattle.q4_machine.specs.History.{state_after, is_added, is_owner, is_change, IsSettled, SyncsAreOwed, IsOpenFor}
+use Rattle.q4_machine.specs.Parts.{calls_of, IsWorn, Answer, Replied, WantsMemory, is_owner_mode, ends_first, ending, HadRoom, WasWorn, IsPart, IsInOrder, Grows, IsOpened, IsClosed, fault_answer, insert_answer, wait_answer, select_answer}
+use Rattle.q4_machine.specs.Recorded.{Recorded, DeskState, entry, pushed, answered, IsInsertRefusal, entry_limit, open_sessions, ended_first, LookedUntil, HasRoom, HasBegun, IsSound}
 use Rattle.q4_machine.specs.OneDesk.{IsDesk}
 use Rattle.q4_table.proofs.Lookup.{some_of}
+use Rattle.q4_machine.proofs.Openers.{opened_by_zero}
 use Rattle.q4_machine.proofs.Validity.{none_some}
-use Rattle.q4_machine.proofs.Histories.{settled_push, settled_by_sync, unsettled_push, unsettled_more, owed_push}
+use Rattle.q4_machine.proofs.Histories.{keeps_sessions, sessions_push, sessions_opened, sessions_closed, settled_push, settled_by_sync, unsettled_push, unsettled_more, owed_push}
 
 -- ## A desk, from what holds of its history
 
-pub desk_of : (r : Recorded) (current : Option ℕ) (s : ℕ) → current ≡ Some s → IsSound r.seen → IsOpenFor r.seen 0 s → ((place : ℕ) → IsSettled r.seen place) → SyncsAreOwed r.seen → HasRoom r 1 → IsDesk r current
-desk_of r current s is sound open_for settled owed room = record {
+pub desk_of : (r : Recorded) (current : Option ℕ) (s : ℕ) → current ≡ Some s → IsSound r.seen → IsOpenFor r.seen 0 s → ((place : ℕ) → IsSettled r.seen place) → SyncsAreOwed r.seen
+    → HasRoom r (open_sessions r.seen) → length r.seen + open_sessions r.seen < entry_limit → IsDesk r current
+desk_of r current s is sound open_for settled owed room few = record {
   in_order = record {
     legal = sound.legal;
+    owed = owed;
     is_open = λ k here. subst (λ x. IsOpenFor r.seen 0 x) (some_of s k (sym is ∙ here)) open_for;
   };
   sound = sound;
   settled = settled;
-  owed = owed;
-  room = λ k here. room;
+  room = room;
+  few = few;
 }
 
 -- more room
 pub desk_reserved : (r r' : Recorded) (current : Option ℕ) → IsDesk r current → r'.seen ≡ r.seen → r.room ≤ r'.room → IsDesk r' current
-desk_reserved r r' current desk same more = record {
-  in_order = subst (λ h. IsInOrder h 0 current) (sym same) desk.in_order;
-  sound = subst IsSound (sym same) desk.sound;
-  settled = λ place. subst (λ h. IsSettled h place) (sym same) (desk.settled place);
-  owed = subst SyncsAreOwed (sym same) desk.owed;
-  room = λ s is.
-      let old = desk.room s is in
-      let size : length r'.seen ≡ length r.seen = ap length same in
-      (omega (arith, old.0, size, more), omega (arith, old.1, size));
+desk_reserved r r' current desk same more =
+    let size : length r'.seen ≡ length r.seen = ap length same in
+    let sessions : open_sessions r'.seen ≡ open_sessions r.seen = ap open_sessions same in
+    record {
+      in_order = subst (λ h. IsInOrder h 0 current) (sym same) desk.in_order;
+      sound = subst IsSound (sym same) desk.sound;
+      settled = λ place. subst (λ h. IsSettled h place) (sym same) (desk.settled place);
+      room = (omega (arith, desk.room.0, size, sessions, more), omega (arith, desk.room.1, size, sessions));
+      few = omega (arith, desk.few, size, sessions);
+    }
+
+-- another session is current, or none
+pub desk_chosen : (r : Recorded) (current current' : Option ℕ) → IsDesk r current → ((s : ℕ) → current' ≡ Some s → IsOpenFor r.seen 0 s) → IsDesk r current'
+desk_chosen r current current' desk open_for = record {
+  in_order = record { legal = desk.in_order.legal; owed = desk.in_order.owed; is_open = open_for };
+  sound = desk.sound;
+  settled = desk.settled;
+  room = desk.room;
+  few = desk.few;
 }
 
--- What a call leaves: the desk afterwards, and the part that it added.
+-- a session that is open may be chosen
+pub chosen : (r : Recorded) (current : Option ℕ) (s : ℕ) → IsDesk r current → mode_of (state_after r.seen) s ≢ None → IsDesk r (Some s)
+chosen r current s desk there = desk_chosen r current (Some s) desk
+    (λ k here. subst (λ x. IsOpenFor r.seen 0 x) (some_of s k here) (record { is_open = there; opened_by = opened_by_zero r.seen desk.sound.legal desk.sound.by_zero s there }))
+
+-- no session is current
+pub stood_up : (r : Recorded) (current : Option ℕ) → IsDesk r current → IsDesk r None
+stood_up r current desk = desk_chosen r current None desk (λ k here. absurd (none_some k here))
+
+-- ## Room
+
+-- the limit leaves room for four more
+not_worn : (h : List Entry) → (IsWorn entry_limit h → ⊥) → length h + open_sessions h + 4 ≤ entry_limit
+not_worn h fresh = elim (cases_lt entry_limit (length h + open_sessions h + 4)) [ inl worn ↦ absurd (fresh worn) | inr few ↦ few ]
+
+-- what a call that has begun has room for
+pub begun_room : (h : List Entry) (r : Recorded) (n : ℕ) → HasBegun h r → n ≤ 4 → HasRoom r n
+begun_room h r n begun few = (omega (arith, begun.room.0, few), omega (arith, begun.room.1, few))
+
+-- one entry less
+pub room_pushed : (r r' : Recorded) (s : ℕ) (call : Call) (reply : Reply) (n : ℕ) → HasRoom r (n + 1) → r' ≡ pushed r s call reply → HasRoom r' n
+room_pushed r r' s call reply n room is =
+    let size = length-append r.seen (entry s call reply ∷ []) in
+    subst (λ (x : Recorded). HasRoom x n) (sym is) (omega (arith, size, room.0), omega (arith, size, room.1))
+
+-- the end that a wait makes first takes one at most
+pub room_ended : (r r' : Recorded) (s : ℕ) → HasRoom r 4 → r' ≡ ended_first r s → HasRoom r' 3
+room_ended r r' s room is = subst (λ (x : Recorded). HasRoom x 3) (sym is) (after (is_owner_mode (mode_of (state_after r.seen) s))) where
+  after : (b : Bool) → HasRoom (record { seen = r.seen ++ ending b 0 s; room = r.room }) 3
+  after true = let size = length-append r.seen (entry s End reply.Done ∷ []) in (omega (arith, size, room.0), omega (arith, size, room.1))
+  after false = let size = length-append r.seen [] in (omega (arith, size, room.0), omega (arith, size, room.1))
+
+-- entries that open and close nothing leave as many sessions open
+sessions_kept : (h grown : List Entry) → All (λ e. keeps_sessions e.call ≡ true) grown → open_sessions (h ++ grown) ≡ open_sessions h
+sessions_kept h [] keep = ap open_sessions (append-nil h)
+sessions_kept h (e ∷ es) keep =
+    ap open_sessions (sym (append_assoc h (e ∷ []) es))
+    ∙ sessions_kept (h ++ e ∷ []) es (All-tail (λ (x : Entry). keeps_sessions x.call ≡ true) e es keep)
+    ∙ sessions_push h e (All-head (λ (x : Entry). keeps_sessions x.call ≡ true) e es keep)
+
+-- ## What a call leaves: the desk afterwards, and the part that it added.
+
 pub record Called (old : List Entry) (r : Recorded) (current : Option ℕ) (s : ℕ) (call : Call) (answer : Answer) : Type 0 where
   pub desk : IsDesk r current
-  pub part : Grows old r.seen (λ grown. IsPart old grown 0 s call answer)
+  pub part : Grows old r.seen (λ grown. IsPart entry_limit old grown 0 s call answer)
 
-called : (old grown : List Entry) (r : Recorded) (current : Option ℕ) (s : ℕ) (call : Call) (answer : Answer) → current ≡ Some s → r.seen ≡ old ++ grown → IsSound r.seen → IsOpenFor r.seen 0 s → HasRoom r 1
-    → ((place : ℕ) → IsSettled (old ++ grown) place) → SyncsAreOwed (old ++ grown) → IsPart old grown 0 s call answer → Called old r current s call answer
-called old grown r current s call answer is grew sound open_for room settled owed part = record {
-  desk = desk_of r current s is sound open_for (λ place. subst (λ h. IsSettled h place) (sym grew) (settled place)) (subst SyncsAreOwed (sym grew) owed) room;
-  part = (grown, grew, part);
-}
+-- What the entries of a call were: few, none opens or closes, all are settled, and each sync was owed.
+record Grew (h grown : List Entry) : Type 0 where
+  few : length grown ≤ 3
+  keep : All (λ e. keeps_sessions e.call ≡ true) grown
+  settled : (place : ℕ) → IsSettled (h ++ grown) place
+  owed : SyncsAreOwed (h ++ grown)
+
+called : (h grown : List Entry) (r1 r : Recorded) (current : Option ℕ) (s : ℕ) (call : Call) (answer : Answer) → current ≡ Some s → HasBegun h r1 → r.seen ≡ h ++ grown → r.room ≡ r1.room → Grew h grown
+    → IsSound r.seen → IsOpenFor r.seen 0 s → IsPart entry_limit h grown 0 s call answer → Called h r current s call answer
+called h grown r1 r current s call answer is begun grew_by same_room grew sound open_for part =
+    let size : length r.seen ≡ length h + length grown = ap length grew_by ∙ length-append h grown in
+    let sessions : open_sessions r.seen ≡ open_sessions h = ap open_sessions grew_by ∙ sessions_kept h grown grew.keep in
+    let start : length r1.seen ≡ length h = ap length begun.seen in
+    let worn = not_worn h begun.fresh in
+    record {
+      desk = desk_of r current s is sound open_for (λ place. subst (λ x. IsSettled x place) (sym grew_by) (grew.settled place)) (subst SyncsAreOwed (sym grew_by) grew.owed)
+          (omega (arith, size, sessions, start, same_room, grew.few, begun.room.0), omega (arith, size, sessions, start, grew.few, begun.room.1)) (omega (arith, size, sessions, worn, grew.few));
+      part = (grown, grew_by, part);
+    }
 
 -- ## Histories that grow by two and by three entries
 
@@ -74,28 +143,35 @@ push_two h a b = append_assoc h (a ∷ []) (b ∷ [])
 push_three : (h : List Entry) (a b c : Entry) → ((h ++ a ∷ []) ++ b ∷ []) ++ c ∷ [] ≡ h ++ (a ∷ b ∷ c ∷ [])
 push_three h a b c = append_assoc (h ++ a ∷ []) (b ∷ []) (c ∷ []) ∙ append_assoc h (a ∷ []) (b ∷ c ∷ [])
 
-settled_two : (h : List Entry) (a b : Entry) → ((place : ℕ) → IsSettled ((h ++ a ∷ []) ++ b ∷ []) place) → (place : ℕ) → IsSettled (h ++ (a ∷ b ∷ [])) place
-settled_two h a b settled place = subst (λ x. IsSettled x place) (push_two h a b) (settled place)
+keep_one : (a : Entry) → keeps_sessions a.call ≡ true → All (λ e. keeps_sessions e.call ≡ true) (a ∷ [])
+keep_one a keeps = All-cons (λ (e : Entry). keeps_sessions e.call ≡ true) a [] keeps (All-nil (λ (e : Entry). keeps_sessions e.call ≡ true))
 
-settled_three : (h : List Entry) (a b c : Entry) → ((place : ℕ) → IsSettled (((h ++ a ∷ []) ++ b ∷ []) ++ c ∷ []) place) → (place : ℕ) → IsSettled (h ++ (a ∷ b ∷ c ∷ [])) place
-settled_three h a b c settled place = subst (λ x. IsSettled x place) (push_three h a b c) (settled place)
-
-owed_two : (h : List Entry) (a b : Entry) → SyncsAreOwed ((h ++ a ∷ []) ++ b ∷ []) → SyncsAreOwed (h ++ (a ∷ b ∷ []))
-owed_two h a b owed = subst SyncsAreOwed (push_two h a b) owed
-
-owed_three : (h : List Entry) (a b c : Entry) → SyncsAreOwed (((h ++ a ∷ []) ++ b ∷ []) ++ c ∷ []) → SyncsAreOwed (h ++ (a ∷ b ∷ c ∷ []))
-owed_three h a b c owed = subst SyncsAreOwed (push_three h a b c) owed
+keep_more : (a : Entry) (es : List Entry) → keeps_sessions a.call ≡ true → All (λ e. keeps_sessions e.call ≡ true) es → All (λ e. keeps_sessions e.call ≡ true) (a ∷ es)
+keep_more a es keeps rest = All-cons (λ (e : Entry). keeps_sessions e.call ≡ true) a es keeps rest
 
 -- ## Parts
 
 of_session : (s : ℕ) (e : Entry) (es : List Entry) → e.session ≡ s → All (λ (x : Entry). x.session ≡ s) es → All (λ (x : Entry). x.session ≡ s) (e ∷ es)
 of_session s e es is rest = All-cons (λ (x : Entry). x.session ≡ s) e es is rest
 
+none_of : (s : ℕ) → All (λ (x : Entry). x.session ≡ s) []
+none_of s = All-nil (λ (x : Entry). x.session ≡ s)
+
+-- the whole call was one hold
+had_room : (h own : List Entry) → All (λ (e : Entry). e.caller ≡ 0) own → (IsWorn entry_limit h → ⊥) → HadRoom entry_limit h own 0
+had_room h own by_zero fresh = record { start = []; own = own; cut = refl; by_caller = by_zero; room = subst (λ x. IsWorn entry_limit x → ⊥) (sym (append-nil h)) fresh }
+
+by_none : All (λ (e : Entry). e.caller ≡ 0) []
+by_none = All-nil (λ (e : Entry). e.caller ≡ 0)
+
+by_one : (s : ℕ) (call : Call) (r : Reply) (es : List Entry) → All (λ (e : Entry). e.caller ≡ 0) es → All (λ (e : Entry). e.caller ≡ 0) (entry s call r ∷ es)
+by_one s call r es rest = All-cons (λ (e : Entry). e.caller ≡ 0) (entry s call r) es refl rest
+
 -- the one entry of a call
-single_part : (h : List Entry) (s : ℕ) (call : Call) (r : Reply) → calls_of 0 (entry s call r ∷ []) ≡ entry s call r ∷ [] → ends_first call (mode_of (state_after h) s) ≡ false → ((place : ℕ) → IsSettled (h ++ entry s call r ∷ []) place)
-    → IsPart h (entry s call r ∷ []) 0 s call (Replied r)
-single_part h s call r own calm settled = record {
-  session_is = of_session s (entry s call r) [] refl (All-nil (λ (x : Entry). x.session ≡ s));
+single_part : (h : List Entry) (s : ℕ) (call : Call) (r : Reply) → ends_first call (mode_of (state_after h) s) ≡ false → (IsWorn entry_limit h → ⊥) → ((place : ℕ) → IsSettled (h ++ entry s call r ∷ []) place)
+    → IsPart entry_limit h (entry s call r ∷ []) 0 s call (Replied r)
+single_part h s call r calm fresh settled = record {
+  session_is = of_session s (entry s call r) [] refl (none_of s);
   cases = record {
     front = [];
     back = [];
@@ -103,14 +179,15 @@ single_part h s call r own calm settled = record {
     own_front = ap (λ b. ending b 0 s) (sym calm);
     own_back = refl;
     settled = settled (length (h ++ []));
+    had_room = had_room h [] by_none fresh;
   };
 }
 
 -- the one entry of a call, and a sync
-synced_part : (h : List Entry) (s : ℕ) (call : Call) (r : Reply) → ends_first call (mode_of (state_after h) s) ≡ false → ((place : ℕ) → IsSettled (h ++ (entry s call r ∷ entry s Sync reply.Done ∷ [])) place)
-    → IsPart h (entry s call r ∷ entry s Sync reply.Done ∷ []) 0 s call (Replied r)
-synced_part h s call r calm settled = record {
-  session_is = of_session s (entry s call r) (entry s Sync reply.Done ∷ []) refl (of_session s (entry s Sync reply.Done) [] refl (All-nil (λ (x : Entry). x.session ≡ s)));
+synced_part : (h : List Entry) (s : ℕ) (call : Call) (r : Reply) → ends_first call (mode_of (state_after h) s) ≡ false → (IsWorn entry_limit h → ⊥) → ((place : ℕ) → IsSettled (h ++ (entry s call r ∷ entry s Sync reply.Done ∷ [])) place)
+    → IsPart entry_limit h (entry s call r ∷ entry s Sync reply.Done ∷ []) 0 s call (Replied r)
+synced_part h s call r calm fresh settled = record {
+  session_is = of_session s (entry s call r) (entry s Sync reply.Done ∷ []) refl (of_session s (entry s Sync reply.Done) [] refl (none_of s));
   cases = record {
     front = [];
     back = entry s Sync reply.Done ∷ [];
@@ -118,187 +195,179 @@ synced_part h s call r calm settled = record {
     own_front = ap (λ b. ending b 0 s) (sym calm);
     own_back = refl;
     settled = settled (length (h ++ []));
+    had_room = had_room h [] by_none fresh;
   };
 }
 
--- ## Room that is left
+-- ## Calls of one entry
 
-room_one : (r1 r2 : Recorded) (a : Entry) → HasRoom r1 3 → r2 ≡ record { seen = r1.seen ++ a ∷ []; room = r1.room } → HasRoom r2 1
-room_one r1 r2 a room first =
-    let size = length-append r1.seen (a ∷ []) in
-    subst (λ (r : Recorded). HasRoom r 1) (sym first) (omega (arith, size, room.0), omega (arith, size, room.1))
+-- a call that is no change
+pub calm_call : (r0 r1 r2 : Recorded) (current : Option ℕ) (s : ℕ) (call : Call) (r : Reply) → current ≡ Some s → IsDesk r0 current → HasBegun r0.seen r1 → r2 ≡ pushed r1 s call r
+    → is_change (state_after r0.seen) call s r ≡ false → (call ≡ Sync → ⊥) → keeps_sessions call ≡ true → ends_first call (mode_of (state_after r0.seen) s) ≡ false
+    → IsSound r2.seen → IsOpenFor r2.seen 0 s → Called r0.seen r2 current s call (Replied r)
+calm_call r0 r1 r2 current s call r is desk begun first calm other keeps ends sound open_for =
+    let h = r0.seen in
+    let a = entry s call r in
+    let grew : r2.seen ≡ h ++ a ∷ [] = ap (λ (x : Recorded). x.seen) first ∙ ap (λ x. x ++ a ∷ []) begun.seen in
+    let settled = settled_push h a desk.settled calm in
+    let owed = owed_push h a desk.in_order.owed (λ sync. absurd (other sync)) in
+    called h (a ∷ []) r1 r2 current s call (Replied r) is begun grew (ap (λ (x : Recorded). x.room) first) (record { few = omega arith; keep = keep_one a keeps; settled = settled; owed = owed }) sound open_for (single_part h s call r ends begun.fresh settled)
 
-room_look : (r1 r2 : Recorded) (a : Entry) → HasRoom r1 4 → r2 ≡ record { seen = r1.seen ++ a ∷ []; room = r1.room } → HasRoom r2 1
-room_look r1 r2 a room first = room_one r1 r2 a (omega (arith, room.0), omega (arith, room.1)) first
+-- a change, and its sync
+pub synced_call : (r0 r1 r2 r3 : Recorded) (current : Option ℕ) (s : ℕ) (call : Call) (r : Reply) → current ≡ Some s → IsDesk r0 current → HasBegun r0.seen r1 → r2 ≡ pushed r1 s call r → r3 ≡ pushed r2 s Sync reply.Done
+    → is_change (state_after r0.seen) call s r ≡ true → (call ≡ Sync → ⊥) → keeps_sessions call ≡ true → ends_first call (mode_of (state_after r0.seen) s) ≡ false
+    → IsSound r3.seen → IsOpenFor r3.seen 0 s → Called r0.seen r3 current s call (Replied r)
+synced_call r0 r1 r2 r3 current s call r is desk begun first second change other keeps ends sound open_for =
+    let h = r0.seen in
+    let a = entry s call r in
+    let b = entry s Sync reply.Done in
+    let seen2 : r2.seen ≡ h ++ a ∷ [] = ap (λ (x : Recorded). x.seen) first ∙ ap (λ x. x ++ a ∷ []) begun.seen in
+    let seen3 : r3.seen ≡ (h ++ a ∷ []) ++ b ∷ [] = ap (λ (x : Recorded). x.seen) second ∙ ap (λ x. x ++ b ∷ []) seen2 in
+    let settled = λ (place : ℕ). subst (λ x. IsSettled x place) (push_two h a b) (settled_by_sync (h ++ a ∷ []) b refl place) in
+    let owed = subst SyncsAreOwed (push_two h a b) (owed_push (h ++ a ∷ []) b (owed_push h a desk.in_order.owed (λ sync. absurd (other sync))) (λ _. unsettled_push h a change)) in
+    called h (a ∷ b ∷ []) r1 r3 current s call (Replied r) is begun (seen3 ∙ push_two h a b) (ap (λ (x : Recorded). x.room) second ∙ ap (λ (x : Recorded). x.room) first)
+    (record { few = omega arith; keep = keep_more a (b ∷ []) keeps (keep_one b refl); settled = settled; owed = owed }) sound open_for (synced_part h s call r ends begun.fresh settled)
 
-room_two : (r1 r2 r3 : Recorded) (a b : Entry) → HasRoom r1 3 → r2 ≡ record { seen = r1.seen ++ a ∷ []; room = r1.room } → r3 ≡ record { seen = r2.seen ++ b ∷ []; room = r2.room } → HasRoom r3 1
-room_two r1 r2 r3 a b room first second =
-    let size2 = length-append r1.seen (a ∷ []) in
-    let size3 = length-append (r1.seen ++ a ∷ []) (b ∷ []) in
-    subst (λ (r : Recorded). HasRoom r 1) (sym (second ∙ ap (λ (r : Recorded). record { seen = r.seen ++ b ∷ []; room = r.room }) first)) (omega (arith, size2, size3, room.0), omega (arith, size2, size3, room.1))
+-- a call that wanted memory after it had begun
+pub no_call : (r0 r1 r2 : Recorded) (current : Option ℕ) (s : ℕ) (call : Call) → IsDesk r0 current → HasBegun r0.seen r1 → r0.room ≤ r1.room → r2 ≡ r1 → Called r0.seen r2 current s call WantsMemory
+no_call r0 r1 r2 current s call desk begun more same =
+    let grew : r2.seen ≡ r0.seen = ap (λ (x : Recorded). x.seen) same ∙ begun.seen in
+    let room : r2.room ≡ r1.room = ap (λ (x : Recorded). x.room) same in
+    record {
+      desk = desk_reserved r0 r2 current desk grew (omega (arith, more, room));
+      part = ([], grew ∙ sym (append-nil r0.seen), record { session_is = none_of s; cases = refl });
+    }
 
-room_look_two : (r1 r2 r3 : Recorded) (a b : Entry) → HasRoom r1 4 → r2 ≡ record { seen = r1.seen ++ a ∷ []; room = r1.room } → r3 ≡ record { seen = r2.seen ++ b ∷ []; room = r2.room } → HasRoom r3 1
-room_look_two r1 r2 r3 a b room first second = room_two r1 r2 r3 a b (omega (arith, room.0), omega (arith, room.1)) first second
+-- the history was full at the start
+was_worn : (h : List Entry) → IsWorn entry_limit h → WasWorn entry_limit h [] (length h)
+was_worn h worn = record { start = []; later = []; cut = refl; count_is = ap length (sym (append-nil h)); worn = subst (IsWorn entry_limit) (sym (append-nil h)) worn }
 
-room_three : (r1 r2 r3 r4 : Recorded) (a b e : Entry) → HasRoom r1 4 → r2 ≡ record { seen = r1.seen ++ a ∷ []; room = r1.room } → r3 ≡ record { seen = r2.seen ++ b ∷ []; room = r2.room } → r4 ≡ record { seen = r3.seen ++ e ∷ []; room = r3.room } → HasRoom r4 1
-room_three r1 r2 r3 r4 a b e room first second third =
-    let size2 = length-append r1.seen (a ∷ []) in
-    let size3 = length-append (r1.seen ++ a ∷ []) (b ∷ []) in
-    let size4 = length-append ((r1.seen ++ a ∷ []) ++ b ∷ []) (e ∷ []) in
-    let next = λ (x : Entry) (r : Recorded). let more : Recorded = record { seen = r.seen ++ x ∷ []; room = r.room } in more in
-    subst (λ (r : Recorded). HasRoom r 1) (sym (third ∙ ap (next e) (second ∙ ap (next b) first))) (omega (arith, size2, size3, size4, room.0), omega (arith, size2, size3, size4, room.1))
-
-room_left : (r1 r2 : Recorded) (a : Entry) → HasRoom r1 2 → r2 ≡ record { seen = r1.seen ++ a ∷ []; room = r1.room } → HasRoom r2 1
-room_left r1 r2 a room first =
-    let size = length-append r1.seen (a ∷ []) in
-    subst (λ (r : Recorded). HasRoom r 1) (sym first) (omega (arith, size, room.0), omega (arith, size, room.1))
-
--- ## Modes that differ
-
-mode_is : (x y : SessionMode) → Some x ≡ Some y → x ≡ y
-mode_is x y is = ap (λ o. unwrap_or o x) is
-
-not_both : (mode : SessionMode) → Some mode ≡ Some NonOwner → (mode ≡ NonOwner → ⊥) → ⊥
-not_both mode is differs = differs (mode_is mode NonOwner is)
-
-empty_other : Empty ≡ NonOwner → ⊥
-empty_other is = cc is
-
-owner_other : (t n : ℕ) → Owner t n ≡ NonOwner → ⊥
-owner_other t n is = cc is
+-- a call that did not begin
+pub fault_part : (h h' : List Entry) (s : ℕ) (call : Call) (f : DeskFault) → h' ≡ h → (f ≡ desk_fault.Memory) ⊎ ((f ≡ desk_fault.Worn (length h)) × IsWorn entry_limit h) → Grows h h' (λ grown. IsPart entry_limit h grown 0 s call (fault_answer f))
+fault_part h h' s call f same (inl memory) = ([], same ∙ sym (append-nil h), subst (λ x. IsPart entry_limit h [] 0 s call (fault_answer x)) (sym memory) (record { session_is = none_of s; cases = refl }))
+fault_part h h' s call f same (inr worn) = ([], same ∙ sym (append-nil h), subst (λ x. IsPart entry_limit h [] 0 s call (fault_answer x)) (sym worn.0) (record { session_is = none_of s; cases = (was_worn h worn.1, inl refl) }))
 
 -- ## Insert
 
-pub inserted : (h : List Entry) (r1 r2 r3 : Recorded) (current : Option ℕ) (s t : ℕ) (row : List Value) (r : Reply) → current ≡ Some s → r1.seen ≡ h → HasRoom r1 3 → r2 ≡ pushed r1 s (Insert t row) r → r3 ≡ pushed r2 s Sync reply.Done → SyncsAreOwed h → is_added r ≡ true
-    → IsSound r3.seen → IsOpenFor r3.seen 0 s → Called h r3 current s (Insert t row) (Replied r)
-inserted h r1 r2 r3 current s t row r is same room first second owed added sound open_for =
-    let a = entry s (Insert t row) r in
-    let b = entry s Sync reply.Done in
-    let seen2 : r2.seen ≡ h ++ a ∷ [] = ap (λ (x : Recorded). x.seen) first ∙ ap (λ x. x ++ a ∷ []) same in
-    let seen3 : r3.seen ≡ (h ++ a ∷ []) ++ b ∷ [] = ap (λ (x : Recorded). x.seen) second ∙ ap (λ x. x ++ b ∷ []) seen2 in
-    let grew : r3.seen ≡ h ++ (a ∷ b ∷ []) = seen3 ∙ push_two h a b in
-    let settled = settled_two h a b (settled_by_sync (h ++ a ∷ []) b refl) in
-    called h (a ∷ b ∷ []) r3 current s (Insert t row) (Replied r) is grew sound open_for (room_two r1 r2 r3 a b room first second) settled (owed_two h a b (owed_push (h ++ a ∷ []) b (owed_push h a owed (λ e. cc e)) (λ _. unsettled_push h a added))) (synced_part h s (Insert t row) r refl settled)
+pub insert_added : (r0 r1 r2 r3 : Recorded) (current : Option ℕ) (s t : ℕ) (row : List Value) (r : Reply) → current ≡ Some s → IsDesk r0 current → HasBegun r0.seen r1 → r2 ≡ pushed r1 s (Insert t row) r → r3 ≡ pushed r2 s Sync reply.Done
+    → is_added r ≡ true → IsSound r3.seen → IsOpenFor r3.seen 0 s → Called r0.seen r3 current s (Insert t row) (Replied r)
+insert_added r0 r1 r2 r3 current s t row r is desk begun first second added sound open_for =
+    synced_call r0 r1 r2 r3 current s (Insert t row) r is desk begun first second added (λ e. cc e) refl refl sound open_for
 
--- an insert that added no row
-calm_insert : (h : List Entry) (r1 r2 : Recorded) (current : Option ℕ) (s t : ℕ) (row : List Value) (r : Reply) → current ≡ Some s → r1.seen ≡ h → HasRoom r1 3 → r2 ≡ pushed r1 s (Insert t row) r → ((place : ℕ) → IsSettled h place) → SyncsAreOwed h → is_added r ≡ false
-    → IsSound r2.seen → IsOpenFor r2.seen 0 s → Called h r2 current s (Insert t row) (Replied r)
-calm_insert h r1 r2 current s t row r is same room first was owed calm sound open_for =
-    let a = entry s (Insert t row) r in
-    let grew : r2.seen ≡ h ++ a ∷ [] = ap (λ (x : Recorded). x.seen) first ∙ ap (λ x. x ++ a ∷ []) same in
-    let settled = settled_push h a was calm in
-    called h (a ∷ []) r2 current s (Insert t row) (Replied r) is grew sound open_for (room_one r1 r2 a room first) settled (owed_push h a owed (λ e. cc e)) (single_part h s (Insert t row) r refl refl settled)
+calm_insert : (r0 r1 r2 : Recorded) (current : Option ℕ) (s t : ℕ) (row : List Value) (r : Reply) → current ≡ Some s → IsDesk r0 current → HasBegun r0.seen r1 → r2 ≡ pushed r1 s (Insert t row) r
+    → is_added r ≡ false → IsSound r2.seen → IsOpenFor r2.seen 0 s → Called r0.seen r2 current s (Insert t row) (Replied r)
+calm_insert r0 r1 r2 current s t row r is desk begun first calm sound open_for =
+    calm_call r0 r1 r2 current s (Insert t row) r is desk begun first calm (λ e. cc e) refl refl sound open_for
 
--- an insert that wanted memory
-no_insert : (h : List Entry) (r1 r2 : Recorded) (current : Option ℕ) (s t : ℕ) (row : List Value) → current ≡ Some s → r1.seen ≡ h → HasRoom r1 3 → r2 ≡ r1 → ((place : ℕ) → IsSettled h place) → SyncsAreOwed h
-    → IsSound r2.seen → IsOpenFor r2.seen 0 s → Called h r2 current s (Insert t row) WantsMemory
-no_insert h r1 r2 current s t row is same room first was owed sound open_for =
-    let grew : r2.seen ≡ h ++ [] = ap (λ (x : Recorded). x.seen) first ∙ same ∙ sym (append-nil h) in
-    let left : HasRoom r2 1 = subst (λ (r : Recorded). HasRoom r 1) (sym first) (omega (arith, room.0), omega (arith, room.1)) in
-    called h [] r2 current s (Insert t row) WantsMemory is grew sound open_for left (λ place. subst (λ x. IsSettled x place) (sym (append-nil h)) (was place)) (subst SyncsAreOwed (sym (append-nil h)) owed)
-    (record { session_is = All-nil (λ (x : Entry). x.session ≡ s); cases = refl })
+-- an insert that was seen before
+pub insert_seen : (r0 r1 r2 : Recorded) (current : Option ℕ) (s t : ℕ) (row : List Value) (mark : ℕ) → current ≡ Some s → IsDesk r0 current → HasBegun r0.seen r1 → r2 ≡ answered r1 s (Insert t row) (insert_answer (Ok (Seen mark)))
+    → IsSound r2.seen → IsOpenFor r2.seen 0 s → Called r0.seen r2 current s (Insert t row) (insert_answer (Ok (Seen mark)))
+insert_seen r0 r1 r2 current s t row mark is desk begun first sound open_for = calm_insert r0 r1 r2 current s t row (reply.Seen mark) is desk begun first refl sound open_for
 
--- an insert that was seen before or refused
-pub insert_calm : (h : List Entry) (r1 r2 : Recorded) (current : Option ℕ) (s t : ℕ) (row : List Value) (mark : ℕ) → current ≡ Some s → r1.seen ≡ h → HasRoom r1 3 → r2 ≡ answered r1 s (Insert t row) (insert_answer (Ok (Seen mark))) → ((place : ℕ) → IsSettled h place) → SyncsAreOwed h
-    → IsSound r2.seen → IsOpenFor r2.seen 0 s → Called h r2 current s (Insert t row) (insert_answer (Ok (Seen mark)))
-insert_calm h r1 r2 current s t row mark is same room first was owed sound open_for = calm_insert h r1 r2 current s t row (reply.Seen mark) is same room first was owed refl sound open_for
+pub insert_refused : (r0 r1 r2 : Recorded) (current : Option ℕ) (s t : ℕ) (row : List Value) (f : InsertFault) → current ≡ Some s → IsDesk r0 current → HasBegun r0.seen r1 → r0.room ≤ r1.room → r2 ≡ answered r1 s (Insert t row) (insert_answer (Err f)) → IsInsertRefusal f
+    → IsSound r2.seen → IsOpenFor r2.seen 0 s → Called r0.seen r2 current s (Insert t row) (insert_answer (Err f))
+insert_refused r0 r1 r2 current s t row insert_fault.Spent is desk begun more first entered sound open_for = calm_insert r0 r1 r2 current s t row (reply.Refused refusal.Spent) is desk begun first refl sound open_for
+insert_refused r0 r1 r2 current s t row insert_fault.Rows is desk begun more first entered sound open_for = calm_insert r0 r1 r2 current s t row (reply.Refused refusal.Rows) is desk begun first refl sound open_for
+insert_refused r0 r1 r2 current s t row (insert_fault.Bytes sum) is desk begun more first entered sound open_for = calm_insert r0 r1 r2 current s t row (reply.Refused (refusal.Bytes sum)) is desk begun first refl sound open_for
+insert_refused r0 r1 r2 current s t row (insert_fault.Desk desk_fault.Memory) is desk begun more first entered sound open_for = no_call r0 r1 r2 current s (Insert t row) desk begun more first
+insert_refused r0 r1 r2 current s t row (insert_fault.Desk (desk_fault.Worn count)) is desk begun more first entered sound open_for = absurd entered
 
-pub insert_refused : (h : List Entry) (r1 r2 : Recorded) (current : Option ℕ) (s t : ℕ) (row : List Value) (f : InsertFault) → current ≡ Some s → r1.seen ≡ h → HasRoom r1 3 → r2 ≡ answered r1 s (Insert t row) (insert_answer (Err f)) → ((place : ℕ) → IsSettled h place) → SyncsAreOwed h
-    → IsSound r2.seen → IsOpenFor r2.seen 0 s → Called h r2 current s (Insert t row) (insert_answer (Err f))
-insert_refused h r1 r2 current s t row insert_fault.Spent is same room first was owed sound open_for = calm_insert h r1 r2 current s t row (reply.Refused refusal.Spent) is same room first was owed refl sound open_for
-insert_refused h r1 r2 current s t row insert_fault.Rows is same room first was owed sound open_for = calm_insert h r1 r2 current s t row (reply.Refused refusal.Rows) is same room first was owed refl sound open_for
-insert_refused h r1 r2 current s t row (insert_fault.Bytes sum) is same room first was owed sound open_for = calm_insert h r1 r2 current s t row (reply.Refused (refusal.Bytes sum)) is same room first was owed refl sound open_for
-insert_refused h r1 r2 current s t row (insert_fault.Desk Memory) is same room first was owed sound open_for = no_insert h r1 r2 current s t row is same room first was owed sound open_for
+-- ## Select
 
--- ## End
+pub selected : (r0 r1 r2 : Recorded) (current : Option ℕ) (s t most : ℕ) (result : Result (List NumberedRow) DeskFault) → current ≡ Some s → IsDesk r0 current → HasBegun r0.seen r1 → r0.room ≤ r1.room → r2 ≡ answered r1 s (Select t most) (select_answer result)
+    → ((f : DeskFault) → result ≡ Err f → f ≡ desk_fault.Memory) → IsSound r2.seen → IsOpenFor r2.seen 0 s → Called r0.seen r2 current s (Select t most) (select_answer result)
+selected r0 r1 r2 current s t most (Ok rows) is desk begun more first memory sound open_for = calm_call r0 r1 r2 current s (Select t most) (reply.Shown rows) is desk begun first refl (λ e. cc e) refl refl sound open_for
+selected r0 r1 r2 current s t most (Err desk_fault.Memory) is desk begun more first memory sound open_for = no_call r0 r1 r2 current s (Select t most) desk begun more first
+selected r0 r1 r2 current s t most (Err (desk_fault.Worn count)) is desk begun more first memory sound open_for = absurd (other (memory (desk_fault.Worn count) refl)) where
+  other : desk_fault.Worn count ≡ desk_fault.Memory → ⊥
+  other e = cc e
 
--- an end that removed a row, and its sync
-pub ended_synced : (h : List Entry) (r1 r2 r3 : Recorded) (current : Option ℕ) (s : ℕ) (r : Reply) → current ≡ Some s → r1.seen ≡ h → HasRoom r1 3 → r2 ≡ pushed r1 s End r → r3 ≡ pushed r2 s Sync reply.Done → SyncsAreOwed h → is_owner (mode_of (state_after h) s) ≡ true
-    → IsSound r3.seen → IsOpenFor r3.seen 0 s → Called h r3 current s End (Replied r)
-ended_synced h r1 r2 r3 current s r is same room first second owed owner sound open_for =
-    let a = entry s End r in
-    let b = entry s Sync reply.Done in
-    let seen2 : r2.seen ≡ h ++ a ∷ [] = ap (λ (x : Recorded). x.seen) first ∙ ap (λ x. x ++ a ∷ []) same in
-    let seen3 : r3.seen ≡ (h ++ a ∷ []) ++ b ∷ [] = ap (λ (x : Recorded). x.seen) second ∙ ap (λ x. x ++ b ∷ []) seen2 in
-    let grew : r3.seen ≡ h ++ (a ∷ b ∷ []) = seen3 ∙ push_two h a b in
-    let settled = settled_two h a b (settled_by_sync (h ++ a ∷ []) b refl) in
-    called h (a ∷ b ∷ []) r3 current s End (Replied r) is grew sound open_for (room_two r1 r2 r3 a b room first second) settled (owed_two h a b (owed_push (h ++ a ∷ []) b (owed_push h a owed (λ e. cc e)) (λ _. unsettled_push h a owner))) (synced_part h s End r refl settled)
-
--- an end that removed no row
-pub ended_calm : (h : List Entry) (r1 r2 : Recorded) (current : Option ℕ) (s : ℕ) (r : Reply) → current ≡ Some s → r1.seen ≡ h → HasRoom r1 3 → r2 ≡ pushed r1 s End r → ((place : ℕ) → IsSettled h place) → SyncsAreOwed h → is_owner (mode_of (state_after h) s) ≡ false
-    → IsSound r2.seen → IsOpenFor r2.seen 0 s → Called h r2 current s End (Replied r)
-ended_calm h r1 r2 current s r is same room first was owed calm sound open_for =
-    let a = entry s End r in
-    let grew : r2.seen ≡ h ++ a ∷ [] = ap (λ (x : Recorded). x.seen) first ∙ ap (λ x. x ++ a ∷ []) same in
-    let settled = settled_push h a was calm in
-    called h (a ∷ []) r2 current s End (Replied r) is grew sound open_for (room_one r1 r2 a room first) settled (owed_push h a owed (λ e. cc e)) (single_part h s End r refl refl settled)
+-- a select that began is refused for want of memory alone
+pub memory_only : (result : Result (List NumberedRow) DeskFault) → IfErr result (λ f. f ≡ desk_fault.Memory) → (f : DeskFault) → result ≡ Err f → f ≡ desk_fault.Memory
+memory_only result told f is = subst (λ (r : Result (List NumberedRow) DeskFault). IfErr r (λ x. x ≡ desk_fault.Memory)) is told
 
 -- ## Wait
 
--- a look in non-owner mode
-pub looked_only : (h : List Entry) (r1 r2 : Recorded) (current : Option ℕ) (s : ℕ) (list : List Listed) (r : Reply) → current ≡ Some s → r1.seen ≡ h → HasRoom r1 4 → r2 ≡ pushed r1 s (Look list) r → ((place : ℕ) → IsSettled h place) → SyncsAreOwed h → mode_of (state_after h) s ≡ Some NonOwner
-    → IsSound r2.seen → IsOpenFor r2.seen 0 s → Called h r2 current s (Look list) (Replied r)
-looked_only h r1 r2 current s list r is same room first was owed mode sound open_for =
-    let a = entry s (Look list) r in
-    let grew : r2.seen ≡ h ++ a ∷ [] = ap (λ (x : Recorded). x.seen) first ∙ ap (λ x. x ++ a ∷ []) same in
-    let settled = settled_push h a was refl in
-    called h (a ∷ []) r2 current s (Look list) (Replied r) is grew sound open_for (room_look r1 r2 a room first) settled (owed_push h a owed (λ e. cc e)) (single_part h s (Look list) r refl (ap (ends_first (Look list)) mode) settled)
+-- a look that ends nothing first
+looked_only : (r0 r1 r2 r3 : Recorded) (current : Option ℕ) (s : ℕ) (list : List Listed) (r : Reply) → is_owner_mode (mode_of (state_after r0.seen) s) ≡ false → current ≡ Some s → IsDesk r0 current → HasBegun r0.seen r1
+    → r2.seen ≡ r0.seen ++ [] → r2.room ≡ r1.room → r3 ≡ pushed r2 s (Look list) r → IsSound r3.seen → IsOpenFor r3.seen 0 s → Called r0.seen r3 current s (Look list) (Replied r)
+looked_only r0 r1 r2 r3 current s list r calm is desk begun ended room looked sound open_for =
+    let same : r2.seen ≡ r1.seen = ended ∙ append-nil r0.seen ∙ sym begun.seen in
+    let first : r3 ≡ pushed r1 s (Look list) r = looked ∙ ap (λ x. let p : Recorded = record { seen = x ++ entry s (Look list) r ∷ []; room = r2.room } in p) same ∙ ap (λ x. let p : Recorded = record { seen = r1.seen ++ entry s (Look list) r ∷ []; room = x } in p) room in
+    calm_call r0 r1 r3 current s (Look list) r is desk begun first refl (λ e. cc e) refl calm sound open_for
 
--- an end in owner mode is answered `Done`
-end_done : (result : Result (Option (ℕ × ℕ)) Refusal) (o : Option SessionMode) → OnErr result (o ≡ Some NonOwner) → (o ≡ Some NonOwner → ⊥) → end_reply result ≡ reply.Done
-end_done (Ok row) o refused other = refl
-end_done (Err refusal) o refused other = absurd (other refused)
-
--- a look that ends first, and removes no row
-pub looked_empty : (h : List Entry) (r1 r2 r3 : Recorded) (current : Option ℕ) (s : ℕ) (list : List Listed) (r : Reply) (result : Result (Option (ℕ × ℕ)) Refusal) → current ≡ Some s → r1.seen ≡ h → HasRoom r1 4
-    → r2 ≡ pushed r1 s End (end_reply result) → r3 ≡ pushed r2 s (Look list) r → OnErr result (mode_of (state_after h) s ≡ Some NonOwner) → ((place : ℕ) → IsSettled h place) → SyncsAreOwed h → mode_of (state_after h) s ≡ Some Empty
-    → IsSound r3.seen → IsOpenFor r3.seen 0 s → Called h r3 current s (Look list) (Replied r)
-looked_empty h r1 r2 r3 current s list r result is same room first second refused was owed mode sound open_for =
-    let done = end_done result (mode_of (state_after h) s) refused (λ other. absurd (not_both Empty (sym mode ∙ other) empty_other)) in
+-- What a wait's last entries are, behind the end that it made first.
+waited_from : (r0 r1 r2 r3 : Recorded) (current : Option ℕ) (s : ℕ) (list : List Listed) (r : Reply) (o : Option SessionMode) → mode_of (state_after r0.seen) s ≡ o → current ≡ Some s → IsDesk r0 current → HasBegun r0.seen r1
+    → r2.seen ≡ r0.seen ++ ending (is_owner_mode o) 0 s → r2.room ≡ r1.room → LookedUntil r2 r3 s (Look list) r (is_owner o) → IsSound r3.seen → IsOpenFor r3.seen 0 s → Called r0.seen r3 current s (Look list) (Replied r)
+waited_from r0 r1 r2 r3 current s list r (Some NonOwner) mode is desk begun ended room looked sound open_for = looked_only r0 r1 r2 r3 current s list r (ap is_owner_mode mode) is desk begun ended room looked sound open_for
+waited_from r0 r1 r2 r3 current s list r None mode is desk begun ended room looked sound open_for = looked_only r0 r1 r2 r3 current s list r (ap is_owner_mode mode) is desk begun ended room looked sound open_for
+waited_from r0 r1 r2 r3 current s list r (Some Empty) mode is desk begun ended room looked sound open_for =
+    let h = r0.seen in
     let a = entry s End reply.Done in
     let b = entry s (Look list) r in
-    let seen2 : r2.seen ≡ h ++ a ∷ [] = ap (λ (x : Recorded). x.seen) first ∙ ap (λ x. r1.seen ++ entry s End x ∷ []) done ∙ ap (λ x. x ++ a ∷ []) same in
-    let seen3 : r3.seen ≡ (h ++ a ∷ []) ++ b ∷ [] = ap (λ (x : Recorded). x.seen) second ∙ ap (λ x. x ++ b ∷ []) seen2 in
-    let grew : r3.seen ≡ h ++ (a ∷ b ∷ []) = seen3 ∙ push_two h a b in
-    let settled = settled_two h a b (settled_push (h ++ a ∷ []) b (settled_push h a was (ap is_owner mode)) refl) in
-    called h (a ∷ b ∷ []) r3 current s (Look list) (Replied r) is grew sound open_for (room_look_two r1 r2 r3 (entry s End (end_reply result)) b room first second) settled (owed_two h a b (owed_push (h ++ a ∷ []) b (owed_push h a owed (λ e. cc e)) (λ e. cc e)))
+    let seen3 : r3.seen ≡ (h ++ a ∷ []) ++ b ∷ [] = ap (λ (x : Recorded). x.seen) looked ∙ ap (λ x. x ++ b ∷ []) ended in
+    let settled = λ (place : ℕ). subst (λ x. IsSettled x place) (push_two h a b) (settled_push (h ++ a ∷ []) b (settled_push h a desk.settled (ap is_owner mode)) refl place) in
+    let owed = subst SyncsAreOwed (push_two h a b) (owed_push (h ++ a ∷ []) b (owed_push h a desk.in_order.owed (λ e. cc e)) (λ e. cc e)) in
+    called h (a ∷ b ∷ []) r1 r3 current s (Look list) (Replied r) is begun (seen3 ∙ push_two h a b) (ap (λ (x : Recorded). x.room) looked ∙ room)
+    (record { few = omega arith; keep = keep_more a (b ∷ []) refl (keep_one b refl); settled = settled; owed = owed }) sound open_for
     (record {
-      session_is = of_session s a (b ∷ []) refl (of_session s b [] refl (All-nil (λ (x : Entry). x.session ≡ s)));
-      cases = record { front = a ∷ []; back = []; cut = refl; own_front = ap (λ x. ending x 0 s) (sym (ap (ends_first (Look list)) mode)); own_back = refl; settled = settled (length (h ++ a ∷ [])) };
+      session_is = of_session s a (b ∷ []) refl (of_session s b [] refl (none_of s));
+      cases = record { front = a ∷ []; back = []; cut = refl; own_front = ap (λ x. ending (is_owner_mode x) 0 s) (sym mode); own_back = refl; settled = settled (length (h ++ a ∷ [])); had_room = had_room h (a ∷ []) (by_one s End reply.Done [] by_none) begun.fresh };
     })
-
--- a look that ends first, and removes a row
-pub looked_owner : (h : List Entry) (r1 r2 r3 r4 : Recorded) (current : Option ℕ) (s t n : ℕ) (list : List Listed) (r : Reply) (result : Result (Option (ℕ × ℕ)) Refusal) → current ≡ Some s → r1.seen ≡ h → HasRoom r1 4
-    → r2 ≡ pushed r1 s End (end_reply result) → r3 ≡ pushed r2 s (Look list) r → r4 ≡ pushed r3 s Sync reply.Done → OnErr result (mode_of (state_after h) s ≡ Some NonOwner) → SyncsAreOwed h → mode_of (state_after h) s ≡ Some (Owner t n)
-    → IsSound r4.seen → IsOpenFor r4.seen 0 s → Called h r4 current s (Look list) (Replied r)
-looked_owner h r1 r2 r3 r4 current s t n list r result is same room first second third refused owed mode sound open_for =
-    let done = end_done result (mode_of (state_after h) s) refused (λ other. absurd (not_both (Owner t n) (sym mode ∙ other) (owner_other t n))) in
+waited_from r0 r1 r2 r3 current s list r (Some (Owner t n)) mode is desk begun ended room (inl looked) sound open_for =
+    let h = r0.seen in
     let a = entry s End reply.Done in
     let b = entry s (Look list) r in
-    let e = entry s Sync reply.Done in
-    let seen2 : r2.seen ≡ h ++ a ∷ [] = ap (λ (x : Recorded). x.seen) first ∙ ap (λ x. r1.seen ++ entry s End x ∷ []) done ∙ ap (λ x. x ++ a ∷ []) same in
-    let seen3 : r3.seen ≡ (h ++ a ∷ []) ++ b ∷ [] = ap (λ (x : Recorded). x.seen) second ∙ ap (λ x. x ++ b ∷ []) seen2 in
-    let seen4 : r4.seen ≡ ((h ++ a ∷ []) ++ b ∷ []) ++ e ∷ [] = ap (λ (x : Recorded). x.seen) third ∙ ap (λ x. x ++ e ∷ []) seen3 in
-    let grew : r4.seen ≡ h ++ (a ∷ b ∷ e ∷ []) = seen4 ∙ push_three h a b e in
-    let settled = settled_three h a b e (settled_by_sync ((h ++ a ∷ []) ++ b ∷ []) e refl) in
-    called h (a ∷ b ∷ e ∷ []) r4 current s (Look list) (Replied r) is grew sound open_for (room_three r1 r2 r3 r4 (entry s End (end_reply result)) b e room first second third) settled (owed_three h a b e (owed_push ((h ++ a ∷ []) ++ b ∷ []) e (owed_push (h ++ a ∷ []) b (owed_push h a owed (λ x. cc x)) (λ x. cc x)) (λ _. unsettled_more h a b (ap is_owner mode) (λ x. cc x))))
+    let c = entry s Sync reply.Done in
+    let seen3 : r3.seen ≡ ((h ++ a ∷ []) ++ b ∷ []) ++ c ∷ [] = ap (λ (x : Recorded). x.seen) looked ∙ ap (λ x. (x ++ b ∷ []) ++ c ∷ []) ended in
+    let settled = λ (place : ℕ). subst (λ x. IsSettled x place) (push_three h a b c) (settled_by_sync ((h ++ a ∷ []) ++ b ∷ []) c refl place) in
+    let owed = subst SyncsAreOwed (push_three h a b c) (owed_push ((h ++ a ∷ []) ++ b ∷ []) c (owed_push (h ++ a ∷ []) b (owed_push h a desk.in_order.owed (λ e. cc e)) (λ e. cc e)) (λ _. unsettled_more h a b (ap is_owner mode) (λ e. cc e))) in
+    called h (a ∷ b ∷ c ∷ []) r1 r3 current s (Look list) (Replied r) is begun (seen3 ∙ push_three h a b c) (ap (λ (x : Recorded). x.room) looked ∙ room)
+    (record { few = omega arith; keep = keep_more a (b ∷ c ∷ []) refl (keep_more b (c ∷ []) refl (keep_one c refl)); settled = settled; owed = owed }) sound open_for
     (record {
-      session_is = of_session s a (b ∷ e ∷ []) refl (of_session s b (e ∷ []) refl (of_session s e [] refl (All-nil (λ (x : Entry). x.session ≡ s))));
-      cases = record { front = a ∷ []; back = e ∷ []; cut = refl; own_front = ap (λ x. ending x 0 s) (sym (ap (ends_first (Look list)) mode)); own_back = refl; settled = settled (length (h ++ a ∷ [])) };
+      session_is = of_session s a (b ∷ c ∷ []) refl (of_session s b (c ∷ []) refl (of_session s c [] refl (none_of s)));
+      cases = record { front = a ∷ []; back = c ∷ []; cut = refl; own_front = ap (λ x. ending (is_owner_mode x) 0 s) (sym mode); own_back = refl; settled = settled (length (h ++ a ∷ [])); had_room = had_room h (a ∷ []) (by_one s End reply.Done [] by_none) begun.fresh };
     })
+waited_from r0 r1 r2 r3 current s list r (Some (Owner t n)) mode is desk begun ended room (inr looked) sound open_for =
+    let h = r0.seen in
+    let a = entry s End reply.Done in
+    let b = entry s Sync reply.Done in
+    let c = entry s (Look list) r in
+    let seen3 : r3.seen ≡ ((h ++ a ∷ []) ++ b ∷ []) ++ c ∷ [] = ap (λ (x : Recorded). x.seen) looked ∙ ap (λ x. (x ++ b ∷ []) ++ c ∷ []) ended in
+    let settled = λ (place : ℕ). subst (λ x. IsSettled x place) (push_three h a b c) (settled_push ((h ++ a ∷ []) ++ b ∷ []) c (settled_by_sync (h ++ a ∷ []) b refl) refl place) in
+    let owed = subst SyncsAreOwed (push_three h a b c) (owed_push ((h ++ a ∷ []) ++ b ∷ []) c (owed_push (h ++ a ∷ []) b (owed_push h a desk.in_order.owed (λ e. cc e)) (λ _. unsettled_push h a (ap is_owner mode))) (λ e. cc e)) in
+    called h (a ∷ b ∷ c ∷ []) r1 r3 current s (Look list) (Replied r) is begun (seen3 ∙ push_three h a b c) (ap (λ (x : Recorded). x.room) looked ∙ room)
+    (record { few = omega arith; keep = keep_more a (b ∷ c ∷ []) refl (keep_more b (c ∷ []) refl (keep_one c refl)); settled = settled; owed = owed }) sound open_for
+    (record {
+      session_is = of_session s a (b ∷ c ∷ []) refl (of_session s b (c ∷ []) refl (of_session s c [] refl (none_of s)));
+      cases = record { front = a ∷ b ∷ []; back = []; cut = refl; own_front = ap (λ x. ending (is_owner_mode x) 0 s) (sym mode); own_back = refl; settled = settled (length (h ++ (a ∷ b ∷ []))); had_room = had_room h (a ∷ b ∷ []) (by_one s End reply.Done (b ∷ []) (by_one s Sync reply.Done [] by_none)) begun.fresh };
+    })
+
+pub waited : (r0 r1 r2 r3 : Recorded) (current : Option ℕ) (s : ℕ) (list : List Listed) (r : Reply) (owes : Bool) → current ≡ Some s → IsDesk r0 current → HasBegun r0.seen r1 → r2 ≡ ended_first r1 s → owes ≡ is_owner (mode_of (state_after r1.seen) s)
+    → LookedUntil r2 r3 s (Look list) r owes → IsSound r3.seen → IsOpenFor r3.seen 0 s → Called r0.seen r3 current s (Look list) (Replied r)
+waited r0 r1 r2 r3 current s list r owes is desk begun ended owed looked sound open_for =
+    let mode : mode_of (state_after r1.seen) s ≡ mode_of (state_after r0.seen) s = ap (λ h. mode_of (state_after h) s) begun.seen in
+    let seen : r2.seen ≡ r0.seen ++ ending (is_owner_mode (mode_of (state_after r0.seen) s)) 0 s = ap (λ (x : Recorded). x.seen) ended ∙ ap (λ h. h ++ ending (is_owner_mode (mode_of (state_after h) s)) 0 s) begun.seen in
+    waited_from r0 r1 r2 r3 current s list r (mode_of (state_after r0.seen) s) refl is desk begun seen (ap (λ (x : Recorded). x.room) ended) (subst (LookedUntil r2 r3 s (Look list) r) (owed ∙ ap is_owner mode) looked) sound open_for
 
 -- ## As the desk's clauses say it
 
 pub part_for : (d : DeskState) (seen : List Entry) (current : Option ℕ) (session : ℕ) (seen' : List Entry) (call : Call) (answer : Answer) → record { seen = seen; current = current } ≡ d → current ≡ Some session
-    → Grows seen seen' (λ grown. IsPart seen grown 0 session call answer) → (s : ℕ) → d.current ≡ Some s → Grows d.seen seen' (λ grown. IsPart d.seen grown 0 s call answer)
+    → Grows seen seen' (λ grown. IsPart entry_limit seen grown 0 session call answer) → (s : ℕ) → d.current ≡ Some s → Grows d.seen seen' (λ grown. IsPart entry_limit d.seen grown 0 s call answer)
 part_for d seen current session seen' call answer view is part =
-    subst (λ (x : DeskState). (s : ℕ) → x.current ≡ Some s → Grows x.seen seen' (λ grown. IsPart x.seen grown 0 s call answer)) view
-    (λ s here. subst (λ k. Grows seen seen' (λ grown. IsPart seen grown 0 k call answer)) (some_of session s (sym is ∙ here)) part)
+    subst (λ (x : DeskState). (s : ℕ) → x.current ≡ Some s → Grows x.seen seen' (λ grown. IsPart entry_limit x.seen grown 0 s call answer)) view
+    (λ s here. subst (λ k. Grows seen seen' (λ grown. IsPart entry_limit seen grown 0 k call answer)) (some_of session s (sym is ∙ here)) part)
+
+-- the part of a call that did not begin
+pub fault_for : (d : DeskState) (seen : List Entry) (current : Option ℕ) (seen' : List Entry) (call : Call) (f : DeskFault) → record { seen = seen; current = current } ≡ d → seen' ≡ seen
+    → (f ≡ desk_fault.Memory) ⊎ ((f ≡ desk_fault.Worn (length seen)) × IsWorn entry_limit seen) → (s : ℕ) → d.current ≡ Some s → Grows d.seen seen' (λ grown. IsPart entry_limit d.seen grown 0 s call (fault_answer f))
+fault_for d seen current seen' call f view same why s is =
+    subst (λ (x : DeskState). Grows x.seen seen' (λ grown. IsPart entry_limit x.seen grown 0 s call (fault_answer f))) view (fault_part seen seen' s call f same why)
 
 -- the same part, of what is the same call and the same answer
-pub part_as : (old seen : List Entry) (s : ℕ) (call call' : Call) (answer answer' : Answer) → call ≡ call' → answer ≡ answer' → Grows old seen (λ grown. IsPart old grown 0 s call answer) → Grows old seen (λ grown. IsPart old grown 0 s call' answer')
+pub part_as : (old seen : List Entry) (s : ℕ) (call call' : Call) (answer answer' : Answer) → call ≡ call' → answer ≡ answer' → Grows old seen (λ grown. IsPart entry_limit old grown 0 s call answer) → Grows old seen (λ grown. IsPart entry_limit old grown 0 s call' answer')
 part_as old seen s call call' answer answer' same_call same_answer part =
-    subst (λ x. Grows old seen (λ grown. IsPart old grown 0 s x answer')) same_call (subst (λ x. Grows old seen (λ grown. IsPart old grown 0 s call x)) same_answer part)
+    subst (λ x. Grows old seen (λ grown. IsPart entry_limit old grown 0 s x answer')) same_call (subst (λ x. Grows old seen (λ grown. IsPart entry_limit old grown 0 s call x)) same_answer part)
 
 pub wait_replied : (place : Option ℕ) → Replied (look_reply place) ≡ wait_answer (Ok place)
 wait_replied (Some place) = refl
@@ -306,25 +375,49 @@ wait_replied None = refl
 
 -- ## Opening and closing
 
-pub opened_desk : (h : List Entry) (r1 r2 : Recorded) (s : ℕ) → r1.seen ≡ h → HasRoom r1 2 → r2 ≡ pushed r1 s Open (reply.Session s) → ((place : ℕ) → IsSettled h place) → SyncsAreOwed h → IsSound r2.seen → IsOpenFor r2.seen 0 s
-    → IsDesk r2 (Some s) × Grows h r2.seen (λ grown. IsOpened 0 grown (Ok s))
-opened_desk h r1 r2 s same room first was owed sound open_for =
+pub opened_desk : (r0 r1 r2 : Recorded) (s : ℕ) → IsDesk r0 None → HasBegun r0.seen r1 → r2 ≡ pushed r1 s Open (reply.Session s) → IsSound r2.seen → IsOpenFor r2.seen 0 s
+    → IsDesk r2 (Some s) × Grows r0.seen r2.seen (λ grown. IsOpened entry_limit r0.seen grown 0 (Ok s))
+opened_desk r0 r1 r2 s desk begun first sound open_for =
+    let h = r0.seen in
     let a = entry s Open (reply.Session s) in
-    let grew : r2.seen ≡ h ++ a ∷ [] = ap (λ (x : Recorded). x.seen) first ∙ ap (λ x. x ++ a ∷ []) same in
-    let settled = λ (place : ℕ). subst (λ x. IsSettled x place) (sym grew) (settled_push h a was refl place) in
-    (desk_of r2 (Some s) s refl sound open_for settled (subst SyncsAreOwed (sym grew) (owed_push h a owed (λ e. cc e))) (room_left r1 r2 a room first), (a ∷ [], grew, refl))
+    let grew : r2.seen ≡ h ++ a ∷ [] = ap (λ (x : Recorded). x.seen) first ∙ ap (λ x. x ++ a ∷ []) begun.seen in
+    let same_room : r2.room ≡ r1.room = ap (λ (x : Recorded). x.room) first in
+    let start : length r1.seen ≡ length h = ap length begun.seen in
+    let size : length r2.seen ≡ length h + 1 = ap length grew ∙ length-append h (a ∷ []) in
+    let sessions : open_sessions r2.seen ≡ open_sessions h + 1 = ap open_sessions grew ∙ sessions_opened h a refl in
+    let worn = not_worn h begun.fresh in
+    let settled = λ (place : ℕ). subst (λ x. IsSettled x place) (sym grew) (settled_push h a desk.settled refl place) in (
+      desk_of r2 (Some s) s refl sound open_for settled (subst SyncsAreOwed (sym grew) (owed_push h a desk.in_order.owed (λ e. cc e)))
+      (omega (arith, size, sessions, start, same_room, begun.room.0), omega (arith, size, sessions, start, begun.room.1)) (omega (arith, size, sessions, worn)),
+      (a ∷ [], grew, record { front = []; back = []; cut = refl; none_front = refl; none_back = refl; room = subst (λ x. IsWorn entry_limit x → ⊥) (sym (append-nil h)) begun.fresh }),
+    )
 
-pub closed_desk : (h : List Entry) (r1 r2 : Recorded) (s : ℕ) → r1.seen ≡ h → r2 ≡ pushed r1 s Close reply.Done → ((place : ℕ) → IsSettled h place) → SyncsAreOwed h → IsSound r2.seen
-    → IsDesk r2 None × Grows h r2.seen (λ grown. IsClosed 0 s grown)
-closed_desk h r1 r2 s same first was owed sound =
+-- an opening that did not begin, or wanted memory
+pub refused_opening : (h h' : List Entry) (f : DeskFault) → h' ≡ h → (f ≡ desk_fault.Memory) ⊎ ((f ≡ desk_fault.Worn (length h)) × IsWorn entry_limit h) → Grows h h' (λ grown. IsOpened entry_limit h grown 0 (Err f))
+refused_opening h h' f same (inl memory) = ([], same ∙ sym (append-nil h), subst (λ x. IsOpened entry_limit h [] 0 (Err x)) (sym memory) refl)
+refused_opening h h' f same (inr worn) = ([], same ∙ sym (append-nil h), subst (λ x. IsOpened entry_limit h [] 0 (Err x)) (sym worn.0) (refl, was_worn h worn.1))
+
+-- an open session may close
+pub closing_room : (r : Recorded) (current : Option ℕ) (s : ℕ) → IsDesk r current → current ≡ Some s → HasRoom r 1
+closing_room r current s desk is =
+    let fewer = sessions_closed r.seen (entry s Close reply.Done) refl (desk.in_order.is_open s is).is_open in
+    (omega (arith, fewer, desk.room.0), omega (arith, fewer, desk.room.1))
+
+pub closed_desk : (r1 r2 : Recorded) (current : Option ℕ) (s : ℕ) → IsDesk r1 current → current ≡ Some s → r2 ≡ pushed r1 s Close reply.Done → IsSound r2.seen
+    → IsDesk r2 None × Grows r1.seen r2.seen (λ grown. IsClosed 0 s grown)
+closed_desk r1 r2 current s desk is first sound =
+    let h = r1.seen in
     let a = entry s Close reply.Done in
-    let grew : r2.seen ≡ h ++ a ∷ [] = ap (λ (x : Recorded). x.seen) first ∙ ap (λ x. x ++ a ∷ []) same in (
+    let grew : r2.seen ≡ h ++ a ∷ [] = ap (λ (x : Recorded). x.seen) first in
+    let same_room : r2.room ≡ r1.room = ap (λ (x : Recorded). x.room) first in
+    let size : length r2.seen ≡ length h + 1 = ap length grew ∙ length-append h (a ∷ []) in
+    let sessions : open_sessions r2.seen + 1 ≤ open_sessions h = subst (λ x. open_sessions x + 1 ≤ open_sessions h) (sym grew) (sessions_closed h a refl (desk.in_order.is_open s is).is_open) in (
       record {
-        in_order = record { legal = sound.legal; is_open = λ k is. absurd (none_some k is) };
+        in_order = record { legal = sound.legal; owed = subst SyncsAreOwed (sym grew) (owed_push h a desk.in_order.owed (λ e. cc e)); is_open = λ k none. absurd (none_some k none) };
         sound = sound;
-        settled = λ place. subst (λ x. IsSettled x place) (sym grew) (settled_push h a was refl place);
-        owed = subst SyncsAreOwed (sym grew) (owed_push h a owed (λ e. cc e));
-        room = λ k is. absurd (none_some k is);
+        settled = λ place. subst (λ x. IsSettled x place) (sym grew) (settled_push h a desk.settled refl place);
+        room = (omega (arith, size, sessions, same_room, desk.room.0), omega (arith, size, sessions, desk.room.1));
+        few = omega (arith, size, sessions, desk.few);
       },
       (a ∷ [], grew, refl),
     )

@@ -1,5 +1,6 @@
 -- Histories that grow by an entry: what they reach, that they stay legal, and what is settled.
-use Rattle.std.proofs.Common.{◌≡◌, ◌==◌, ◌&&◌, ◌<◌, ◌≤◌, ◌+◌, ◌^◌, ◌++◌, ◌∷◌, ◌∙◌, ◌⊎◌, [], List, ℕ, zero, suc, Bool, true, false, cond, not, Option, Some, None, All, Any, fold, length, drop, refl, sym, ap, subst, arith, inl, inr, append_assoc}
+use Rattle.std.proofs.Common.{◌≡◌, ◌≢◌, ◌==◌, ◌&&◌, ◌<◌, ◌≤◌, ◌+◌, ◌^◌, ◌++◌, ◌∷◌, ◌∙◌, ◌⊎◌, [], List, ℕ, zero, suc, Bool, true, false, cond, not, Option, Some, None, All, Any, find, fold, length, drop, refl, sym, ap, subst, arith, inl, inr, append_assoc}
+use Rattle.std.specs.Option.{option_map}
 use Rattle.std.proofs.lemmas.List.{length-append, length-map}
 use Rattle.std.proofs.Math.ListN.{get_or-append}
 use Rattle.std.proofs.lemmas.Bool.{true≢false, and_from, eq-eqb}
@@ -12,13 +13,13 @@ use Rattle.q4_table.specs.declared.adding.Check.TheVariants as check
 use Rattle.q4_table.specs.Adding.{check_of}
 use Rattle.q4_machine.specs.declared.entry.Entry.{Entry}
 use Rattle.q4_machine.specs.declared.entry.Call.{Call}
-use Rattle.q4_machine.specs.declared.entry.Call.TheVariants.{Opened, Open, Insert, Look, End, Close, Sync}
+use Rattle.q4_machine.specs.declared.entry.Call.TheVariants.{Opened, Open, Insert, Look, End, Abort, RowId, Select, Close, Sync}
 use Rattle.q4_machine.specs.declared.session.SessionMode.{SessionMode}
 use Rattle.q4_machine.specs.declared.session.SessionMode.TheVariants.{NonOwner, Empty, Owner}
 use Rattle.q4_machine.specs.declared.session.OpenSession.{OpenSession}
-use Rattle.q4_machine.specs.Machine.{MachineState, table_at, mode_of, in_mode, with_mode, without_session}
+use Rattle.q4_machine.specs.Machine.{MachineState, table_at, mode_of, session_in, in_mode, with_mode, without_session}
 use Rattle.q4_machine.specs.Pick.{Picked, pick}
-use Rattle.q4_machine.specs.Step.{step, inserted, looked, ended, closed}
+use Rattle.q4_machine.specs.Step.{step, inserted, looked, ended, aborted, closed}
 use Rattle.q4_machine.specs.History.{nothing, advance, state_after, opens_session, opener, IsNext, is_change, IsSettled, SyncsAreOwed, IsLegal}
 
 pub cons_head : {X : Type 0} {x y : X} {xs ys : List X} → x ∷ xs ≡ y ∷ ys → x ≡ y
@@ -54,11 +55,17 @@ state_push history e = fold-append advance nothing history (e ∷ [])
 moved_length : (session : ℕ) (mode : SessionMode) (sessions : List OpenSession) → length (with_mode session mode sessions) ≡ length sessions
 moved_length session mode sessions = length-map sessions (in_mode session mode)
 
-ended_sessions : (m : MachineState) (s : ℕ) (o : Option SessionMode) → length (ended m s o).0.sessions ≤ length m.sessions + 1
-ended_sessions m s (Some NonOwner) = omega arith
-ended_sessions m s (Some Empty) = let e = moved_length s NonOwner m.sessions in omega (arith, e)
-ended_sessions m s (Some (Owner t n)) = let e = moved_length s NonOwner m.sessions in omega (arith, e)
-ended_sessions m s None = omega arith
+ended_sessions : (m : MachineState) (s : ℕ) (o : Option SessionMode) → length (ended m s o).0.sessions ≡ length m.sessions
+ended_sessions m s (Some NonOwner) = refl
+ended_sessions m s (Some Empty) = moved_length s NonOwner m.sessions
+ended_sessions m s (Some (Owner t n)) = moved_length s NonOwner m.sessions
+ended_sessions m s None = refl
+
+aborted_sessions : (m : MachineState) (s : ℕ) (o : Option SessionMode) → length (aborted m s o).0.sessions ≡ length m.sessions
+aborted_sessions m s (Some NonOwner) = refl
+aborted_sessions m s (Some Empty) = moved_length s NonOwner m.sessions
+aborted_sessions m s (Some (Owner t n)) = moved_length s NonOwner m.sessions
+aborted_sessions m s None = refl
 
 left_sessions : (s : ℕ) (sessions : List OpenSession) → length (without_session s sessions) ≤ length sessions
 left_sessions s [] = omega arith
@@ -72,23 +79,26 @@ closed_sessions m s (Some Empty) = let e = left_sessions s m.sessions in omega (
 closed_sessions m s (Some (Owner t n)) = let e = left_sessions s m.sessions in omega (arith, e)
 closed_sessions m s None = omega arith
 
-looked_sessions : (m : MachineState) (s : ℕ) (o : Option Picked) → length (looked m s o).0.sessions ≤ length m.sessions + 1
-looked_sessions m s (Some p) = let e = moved_length s (Owner p.table p.number) m.sessions in omega (arith, e)
-looked_sessions m s None = let e = moved_length s Empty m.sessions in omega (arith, e)
+looked_sessions : (m : MachineState) (s : ℕ) (o : Option Picked) → length (looked m s o).0.sessions ≡ length m.sessions
+looked_sessions m s (Some p) = moved_length s (Owner p.table p.number) m.sessions
+looked_sessions m s None = moved_length s Empty m.sessions
 
-inserted_sessions : (m : MachineState) (t : ℕ) (row : List Value) (c : Check) → length (inserted m t row c).0.sessions ≤ length m.sessions + 1
-inserted_sessions m t row check.New = omega arith
-inserted_sessions m t row (check.Seen mark) = omega arith
-inserted_sessions m t row check.Spent = omega arith
-inserted_sessions m t row check.Rows = omega arith
-inserted_sessions m t row (check.Bytes sum) = omega arith
+inserted_sessions : (m : MachineState) (t : ℕ) (row : List Value) (c : Check) → length (inserted m t row c).0.sessions ≡ length m.sessions
+inserted_sessions m t row check.New = refl
+inserted_sessions m t row (check.Seen mark) = refl
+inserted_sessions m t row check.Spent = refl
+inserted_sessions m t row check.Rows = refl
+inserted_sessions m t row (check.Bytes sum) = refl
 
 step_sessions : (m : MachineState) (s : ℕ) (call : Call) → length (step m s call).0.sessions ≤ length m.sessions + 1
 step_sessions m s (Opened tables) = omega arith
 step_sessions m s Open = let e = length-append m.sessions (record { session = m.next_session; mode = NonOwner } ∷ []) in omega (arith, e)
-step_sessions m s (Insert place row) = inserted_sessions m place row (check_of (table_at m.tables place) row None)
-step_sessions m s (Look list) = looked_sessions m s (pick m list)
-step_sessions m s End = ended_sessions m s (mode_of m s)
+step_sessions m s (Insert place row) = let e = inserted_sessions m place row (check_of (table_at m.tables place) row None) in omega (arith, e)
+step_sessions m s (Look list) = let e = looked_sessions m s (pick m list) in omega (arith, e)
+step_sessions m s End = let e = ended_sessions m s (mode_of m s) in omega (arith, e)
+step_sessions m s Abort = let e = aborted_sessions m s (mode_of m s) in omega (arith, e)
+step_sessions m s RowId = omega arith
+step_sessions m s (Select place most) = omega arith
 step_sessions m s Close = closed_sessions m s (mode_of m s)
 step_sessions m s Sync = omega arith
 
@@ -101,6 +111,59 @@ fold_sessions m (e ∷ es) =
 
 pub few_sessions : (history : List Entry) → length (state_after history).sessions ≤ length history
 few_sessions history = let h = fold_sessions nothing history in omega (arith, h)
+
+-- ## How many sessions are open
+
+-- the call neither opens nor closes a session
+abbrev pub keeps_sessions : Call → Bool
+keeps_sessions (Opened tables) = false
+keeps_sessions Open = false
+keeps_sessions Close = false
+keeps_sessions _ = true
+
+step_keeps : (m : MachineState) (s : ℕ) (call : Call) → keeps_sessions call ≡ true → length (step m s call).0.sessions ≡ length m.sessions
+step_keeps m s (Opened tables) keeps = absurd (true≢false (sym keeps))
+step_keeps m s Open keeps = absurd (true≢false (sym keeps))
+step_keeps m s (Insert place row) keeps = inserted_sessions m place row (check_of (table_at m.tables place) row None)
+step_keeps m s (Look list) keeps = looked_sessions m s (pick m list)
+step_keeps m s End keeps = ended_sessions m s (mode_of m s)
+step_keeps m s Abort keeps = aborted_sessions m s (mode_of m s)
+step_keeps m s RowId keeps = refl
+step_keeps m s (Select place most) keeps = refl
+step_keeps m s Close keeps = absurd (true≢false (sym keeps))
+step_keeps m s Sync keeps = refl
+
+pub sessions_push : (history : List Entry) (e : Entry) → keeps_sessions e.call ≡ true → length (state_after (history ++ e ∷ [])).sessions ≡ length (state_after history).sessions
+sessions_push history e keeps = ap (λ (m : MachineState). length m.sessions) (state_push history e) ∙ step_keeps (state_after history) e.session e.call keeps
+
+pub sessions_opened : (history : List Entry) (e : Entry) → e.call ≡ Open → length (state_after (history ++ e ∷ [])).sessions ≡ length (state_after history).sessions + 1
+sessions_opened history e opens =
+    let m = state_after history in
+    let same : state_after (history ++ e ∷ []) ≡ (step m e.session Open).0 = state_push history e ∙ ap (λ c. (step m e.session c).0) opens in
+    let size : length (m.sessions ++ record { session = m.next_session; mode = NonOwner } ∷ []) ≡ length m.sessions + 1 = length-append m.sessions (record { session = m.next_session; mode = NonOwner } ∷ []) in
+    ap (λ (x : MachineState). length x.sessions) same ∙ size
+
+-- without a session that is there, there is one less
+fewer_step : (s : ℕ) (x : OpenSession) (xs : List OpenSession) (b : Bool) → (x.session == s) ≡ b → cond b (Some x) (find (λ (y : OpenSession). y.session == s) xs) ≢ None
+    → (find (λ (y : OpenSession). y.session == s) xs ≢ None → length (without_session s xs) + 1 ≤ length xs) → length (cond (not b) (x ∷ without_session s xs) (without_session s xs)) + 1 ≤ length (x ∷ xs)
+fewer_step s x xs true is there later = let rest = left_sessions s xs in omega (arith, rest)
+fewer_step s x xs false is there later = let rest = later there in omega (arith, rest)
+
+fewer_sessions : (s : ℕ) (sessions : List OpenSession) → session_in sessions s ≢ None → length (without_session s sessions) + 1 ≤ length sessions
+fewer_sessions s [] there = absurd (there refl)
+fewer_sessions s (x ∷ xs) there = fewer_step s x xs (x.session == s) refl there (fewer_sessions s xs)
+
+closed_fewer : (m : MachineState) (s : ℕ) (o : Option SessionMode) → mode_of m s ≡ o → o ≢ None → session_in m.sessions s ≢ None → length (closed m s o).0.sessions + 1 ≤ length m.sessions
+closed_fewer m s (Some NonOwner) is some there = fewer_sessions s m.sessions there
+closed_fewer m s (Some Empty) is some there = fewer_sessions s m.sessions there
+closed_fewer m s (Some (Owner t n)) is some there = fewer_sessions s m.sessions there
+closed_fewer m s None is some there = absurd (some refl)
+
+pub sessions_closed : (history : List Entry) (e : Entry) → e.call ≡ Close → mode_of (state_after history) e.session ≢ None → length (state_after (history ++ e ∷ [])).sessions + 1 ≤ length (state_after history).sessions
+sessions_closed history e closes there =
+    let m = state_after history in
+    let same : state_after (history ++ e ∷ []) ≡ (step m e.session Close).0 = state_push history e ∙ ap (λ c. (step m e.session c).0) closes in
+    subst (λ (x : MachineState). length x.sessions + 1 ≤ length m.sessions) (sym same) (closed_fewer m e.session (mode_of m e.session) refl there (λ none. there (ap (option_map (λ (x : OpenSession). x.mode)) none)))
 
 -- ## One more entry
 

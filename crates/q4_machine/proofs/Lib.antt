@@ -6,6 +6,9 @@ pub mod Looking
 pub mod Inserting
 pub mod Histories
 pub mod Reached
+pub mod Openers
 pub mod Recording
 pub mod Opened
+pub mod Selecting
+pub mod Pausing
 pub mod Desks

@@ -19,7 +19,7 @@ use Rattle.q4_machine.specs.declared.looks.Listed.{Listed}
 use Rattle.q4_machine.specs.declared.session.SessionMode.TheVariants.{NonOwner, Empty, Owner}
 use Rattle.q4_machine.specs.declared.tables.Opening.{Opening}
 use Rattle.q4_machine.specs.declared.entry.Call.{Call}
-use Rattle.q4_machine.specs.declared.entry.Call.TheVariants.{Opened, Open, Insert, Look, End, Close, Sync}
+use Rattle.q4_machine.specs.declared.entry.Call.TheVariants.{Opened, Open, Insert, Look, End, Abort, RowId, Select, Close, Sync}
 use Rattle.q4_machine.specs.Definitions.{definitions, IsRowFor, IsListed}
 use Rattle.q4_machine.specs.Machine.{MachineState, no_table, opening_at, table_at, mode_of, owner_at}
 use Rattle.q4_machine.specs.Pick.{Picked, pick, pick_from}
@@ -28,7 +28,7 @@ use Rattle.q4_machine.specs.Valid.{IsValid}
 use Rattle.q4_machine.specs.Looked.{LookAnswers}
 use Rattle.q4_machine.proofs.Defined.{columns_of, inside_tables, listed_inside}
 use Rattle.q4_machine.proofs.Validity.{none_some, mode_given, owner_given}
-use Rattle.q4_machine.proofs.Steps.{valid_quiet, valid_taken, valid_opened, valid_added, valid_ended, valid_closed, owner_same, not_owner, not_empty}
+use Rattle.q4_machine.proofs.Steps.{valid_quiet, valid_taken, valid_opened, valid_added, valid_ended, valid_aborted, valid_closed, owner_same, not_owner, not_empty}
 use Rattle.q4_machine.proofs.Picks.{PickedAt, all_take, picked_at, none_picked}
 
 -- What a look finds, all together.
@@ -93,6 +93,9 @@ valid_step m session Open valid may = valid_opened m session valid
 valid_step m session (Insert place row) valid may = valid_inserted m place row (check_of (table_at m.tables place) row None) refl valid may.1
 valid_step m session (Look list) valid may = valid_looked m session list (pick m list) refl valid may.0 may.1
 valid_step m session End valid may = valid_ended m session (mode_of m session) refl valid
+valid_step m session Abort valid may = valid_aborted m session (mode_of m session) refl valid
+valid_step m session RowId valid may = valid
+valid_step m session (Select place most) valid may = valid
 valid_step m session Close valid may = valid_closed m session (mode_of m session) refl valid
 valid_step m session Sync valid may = valid
 

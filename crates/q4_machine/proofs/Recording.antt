@@ -8,7 +8,7 @@ use Rattle.q4_table.specs.declared.adding.Check.TheVariants as check
 use Rattle.q4_table.specs.Adding.{check_of}
 use Rattle.q4_machine.specs.declared.entry.Entry.{Entry}
 use Rattle.q4_machine.specs.declared.entry.Call.{Call}
-use Rattle.q4_machine.specs.declared.entry.Call.TheVariants.{Open, Insert, Look, End, Close, Sync}
+use Rattle.q4_machine.specs.declared.entry.Call.TheVariants.{Open, Insert, Look, End, Abort, RowId, Select, Close, Sync}
 use Rattle.q4_machine.specs.declared.entry.Reply.{Reply}
 use Rattle.q4_machine.specs.declared.entry.Reply.TheVariants as reply
 use Rattle.q4_machine.specs.declared.looks.Listed.{Listed}
@@ -17,7 +17,7 @@ use Rattle.q4_machine.specs.declared.session.SessionMode.TheVariants.{NonOwner, 
 use Rattle.q4_machine.specs.Definitions.{definitions, IsRowFor, IsListed}
 use Rattle.q4_machine.specs.Machine.{MachineState, mode_of, table_at}
 use Rattle.q4_machine.specs.Pick.{Picked, pick}
-use Rattle.q4_machine.specs.Step.{step, MayStep, inserted, looked, ended}
+use Rattle.q4_machine.specs.Step.{step, MayStep, inserted, looked, ended, aborted}
 use Rattle.q4_machine.specs.Valid.{IsValid}
 use Rattle.q4_machine.specs.History.{state_after, definitions_of, opens_session, opener, IsOpenFor, IsLegal}
 use Rattle.q4_machine.specs.Recorded.{entry, IsRecorded}
@@ -119,6 +119,28 @@ pub end_goes : (m m' : MachineState) (history : List Entry) (s : ℕ) (reply : R
 end_goes m m' history s reply recorded steps was few =
     go_on m m' history s End reply recorded steps was.is_open was (some_there (mode_of (step (state_after history) s End).0 s) NonOwner (mode_ended (state_after history) s was.is_open)) few
 
+aborted_mode : (m : MachineState) (s : ℕ) (o : Option SessionMode) → mode_of m s ≡ o → o ≢ None → mode_of (aborted m s o).0 s ≢ None
+aborted_mode m s (Some NonOwner) was there = some_there (mode_of m s) NonOwner was
+aborted_mode m s (Some Empty) was there = some_there (mode_of (aborted m s (Some Empty)).0 s) NonOwner (mode_given s NonOwner m.sessions (some_there (mode_of m s) Empty was))
+aborted_mode m s (Some (Owner t n)) was there = some_there (mode_of (aborted m s (Some (Owner t n))).0 s) NonOwner (mode_given s NonOwner m.sessions (some_there (mode_of m s) (Owner t n) was))
+aborted_mode m s None was there = absurd (there refl)
+
+pub abort_goes : (m m' : MachineState) (history : List Entry) (s : ℕ) (reply : Reply) → IsRecorded m history → step m s Abort ≡ (m', reply) → IsOpenFor history 0 s → length history + 1 < 2 ^ 61
+    → Goes m' (history ++ entry s Abort reply ∷ []) s
+abort_goes m m' history s reply recorded steps was few =
+    let reached = state_after history in
+    go_on m m' history s Abort reply recorded steps was.is_open was (aborted_mode reached s (mode_of reached s) refl was.is_open) few
+
+pub row_id_goes : (m : MachineState) (history : List Entry) (s : ℕ) (reply : Reply) → IsRecorded m history → step m s RowId ≡ (m, reply) → IsOpenFor history 0 s → length history + 1 < 2 ^ 61
+    → Goes m (history ++ entry s RowId reply ∷ []) s
+row_id_goes m history s reply recorded steps was few = go_on m m history s RowId reply recorded steps was.is_open was was.is_open few
+
+pub select_goes : (m : MachineState) (history : List Entry) (s t most : ℕ) (reply : Reply) → IsRecorded m history → step m s (Select t most) ≡ (m, reply) → t < length (definitions_of history) → IsOpenFor history 0 s → length history + 1 < 2 ^ 61
+    → Goes m (history ++ entry s (Select t most) reply ∷ []) s
+select_goes m history s t most reply recorded steps inside was few =
+    let here : t < length (definitions (state_after history).tables) = subst (λ defs. t < length defs) (sym recorded.sound.defined) inside in
+    go_on m m history s (Select t most) reply recorded steps (was.is_open, here) was was.is_open few
+
 pub end_mode : (history : List Entry) (s : ℕ) (reply : Reply) → IsOpenFor history 0 s → mode_of (state_after (history ++ entry s End reply ∷ [])) s ≡ Some NonOwner
 end_mode history s reply was = ap (λ (x : MachineState). mode_of x s) (state_push history (entry s End reply)) ∙ mode_ended (state_after history) s was.is_open
 
@@ -133,12 +155,7 @@ session_of : (a b : ℕ) → reply.Session a ≡ reply.Session b → a ≡ b
 session_of a b is = ap (λ r. number_of r) is where
   number_of : Reply → ℕ
   number_of (reply.Session n) = n
-  number_of reply.Done = 0
-  number_of (reply.Added n) = 0
-  number_of (reply.Seen n) = 0
-  number_of (reply.Found n) = 0
-  number_of reply.Nothing = 0
-  number_of (reply.Refused refusal) = 0
+  number_of _ = 0
 
 cons_not_nil : (e : Entry) (es : List Entry) → e ∷ es ≡ [] → ⊥
 cons_not_nil e es is = cc is

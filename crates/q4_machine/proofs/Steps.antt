@@ -20,7 +20,7 @@ use Rattle.q4_machine.specs.declared.session.OpenSession.{OpenSession}
 use Rattle.q4_machine.specs.declared.tables.Opening.{Opening}
 use Rattle.q4_machine.specs.declared.entry.Call.TheVariants.{Open}
 use Rattle.q4_machine.specs.Machine.{MachineState, no_table, opening_at, table_at, mode_of, owner_at, session_in, in_mode, with_mode, without_session}
-use Rattle.q4_machine.specs.Step.{with_table, with_rows, with_session, with_none, step, ended, closed}
+use Rattle.q4_machine.specs.Step.{with_table, with_rows, with_session, with_none, step, ended, aborted, closed}
 use Rattle.q4_machine.specs.Valid.{IsValid}
 use Rattle.q4_table.proofs.Lookup.{found, found_others, found_gone, found_before, found_last}
 use Rattle.q4_table.proofs.Rising.{rise-push, rise-filter, none_next, map_keeps}
@@ -142,6 +142,26 @@ valid_removed m s t n valid was =
       owned = agree.owned;
     }
 
+-- a session gives back the row that it owns
+pub valid_released : (m : MachineState) (s t n : ℕ) → IsValid m → mode_of m s ≡ Some (Owner t n) → IsValid (with_session (with_rows m t (with_owner n None)) s NonOwner)
+valid_released m s t n valid was =
+    let table = table_at m.tables t in
+    let inside = owned_inside m t n s (valid.owns s t n was) in
+    let rest : TableState = record table { rows = with_owner n None table.rows } in
+    let m' = with_session (with_table m t rest) s NonOwner in
+    let given : mode_of m' s ≡ Some NonOwner = mode_given s NonOwner m.sessions (mode_there m s (Owner t n) was) in
+    let agree = agrees_leave (mode_of m) (mode_of m') (owner_at m) (owner_at m') s t n (agrees m valid) was
+    (owner_same m t rest n inside.0 ∙ owner_given n None table.rows inside.1)
+    (owner_elsewhere m t n rest inside.0 (λ k other. owner_other n k None table.rows other))
+    (λ q k is. not_owner q k (sym given ∙ is)) (λ j other. mode_other s j NonOwner m.sessions other) in
+    record {
+      tables = All-set IsValidOpening m.tables t (with_its m t rest) (valid-owned table n None (All-get_or IsValidOpening m.tables t no_table inside.0 valid.tables)) valid.tables;
+      begins = valid.begins;
+      sessions = sessions_moved m s NonOwner valid.sessions;
+      owns = agree.owns;
+      owned = agree.owned;
+    }
+
 mode_without_other : (s k : ℕ) (sessions : List OpenSession) → k ≢ s
     → option_map (λ (x : OpenSession). x.mode) (session_in (without_session s sessions) k) ≡ option_map (λ (x : OpenSession). x.mode) (session_in sessions k)
 mode_without_other s k sessions other = ap (option_map (λ (x : OpenSession). x.mode)) (found_others (λ (x : OpenSession). x.session) s k sessions other)
@@ -251,6 +271,12 @@ valid_ended m s (Some NonOwner) was valid = valid
 valid_ended m s (Some Empty) was valid = valid_quiet m s Empty NonOwner valid was not_empty not_owner
 valid_ended m s (Some (Owner t n)) was valid = valid_removed m s t n valid was
 valid_ended m s None was valid = valid
+
+pub valid_aborted : (m : MachineState) (s : ℕ) (o : Option SessionMode) → mode_of m s ≡ o → IsValid m → IsValid (aborted m s o).0
+valid_aborted m s (Some NonOwner) was valid = valid
+valid_aborted m s (Some Empty) was valid = valid_quiet m s Empty NonOwner valid was not_empty not_owner
+valid_aborted m s (Some (Owner t n)) was valid = valid_released m s t n valid was
+valid_aborted m s None was valid = valid
 
 pub valid_closed : (m : MachineState) (s : ℕ) (o : Option SessionMode) → mode_of m s ≡ o → IsValid m → IsValid (closed m s o).0
 valid_closed m s (Some NonOwner) was valid = valid_left m s NonOwner valid was not_owner

@@ -2,12 +2,12 @@
 use Rattle.std.specs.Prelude.{◌≡◌, ◌==◌, ◌&&◌, ◌+◌, ◌^◌, ◌<◌, ◌≤◌, ℕ, Bool, true, false, List, [], ◌∷◌, ◌++◌, Option, None, Some, All, Any, fold, length, if◌then◌else◌}
 use Rattle.q4_def.specs.declared.table_def.TableDef.{TableDef}
 use Rattle.q4_machine.specs.declared.session.SessionMode.{SessionMode}
-use Rattle.q4_machine.specs.declared.session.SessionMode.TheVariants.{NonOwner, Empty, Owner}
+use Rattle.q4_machine.specs.declared.session.SessionMode.TheVariants.{Owner}
 use Rattle.q4_machine.specs.declared.entry.Entry.{Entry}
 use Rattle.q4_machine.specs.declared.entry.Call.{Call}
-use Rattle.q4_machine.specs.declared.entry.Call.TheVariants.{Opened, Open, Insert, Look, End, Close, Sync}
+use Rattle.q4_machine.specs.declared.entry.Call.TheVariants.{Opened, Open, Insert, End, Sync}
 use Rattle.q4_machine.specs.declared.entry.Reply.{Reply}
-use Rattle.q4_machine.specs.declared.entry.Reply.TheVariants.{Done, Session, Added, Seen, Found, Nothing, Refused}
+use Rattle.q4_machine.specs.declared.entry.Reply.TheVariants.{Done, Added}
 use Rattle.q4_machine.specs.declared.tables.Opening.{Opening}
 use Rattle.q4_machine.specs.Definitions.{definitions}
 use Rattle.q4_machine.specs.Machine.{MachineState, mode_of, IsSessionOpen}
@@ -27,13 +27,8 @@ state_after history = fold advance nothing history
 
 -- the call opens a session
 abbrev pub opens_session : Call → Bool
-opens_session (Opened tables) = false
 opens_session Open = true
-opens_session (Insert place row) = false
-opens_session (Look list) = false
-opens_session End = false
-opens_session Close = false
-opens_session Sync = false
+opens_session _ = false
 
 -- the caller of the entry that opened a session
 abbrev pub opener : List Entry → ℕ → Option ℕ
@@ -58,12 +53,7 @@ AreUnowned tables = All (λ opening. All (λ r. r.owner ≡ None) opening.table.
 -- the tables of the first entry
 abbrev pub tables_of : Call → List Opening
 tables_of (Opened tables) = tables
-tables_of Open = []
-tables_of (Insert place row) = []
-tables_of (Look list) = []
-tables_of End = []
-tables_of Close = []
-tables_of Sync = []
+tables_of _ = []
 
 abbrev pub opened_tables : List Entry → List Opening
 opened_tables [] = []
@@ -85,38 +75,22 @@ pub record IsOpening (e : Entry) : Type 0 where
   pub reply : e.reply ≡ Done
 
 abbrev pub is_sync : Call → Bool
-is_sync (Opened tables) = false
-is_sync Open = false
-is_sync (Insert place row) = false
-is_sync (Look list) = false
-is_sync End = false
-is_sync Close = false
 is_sync Sync = true
+is_sync _ = false
 
 abbrev pub is_added : Reply → Bool
-is_added Done = false
-is_added (Session n) = false
 is_added (Added n) = true
-is_added (Seen n) = false
-is_added (Found n) = false
-is_added Nothing = false
-is_added (Refused refusal) = false
+is_added _ = false
 
 abbrev pub is_owner : Option SessionMode → Bool
-is_owner None = false
-is_owner (Some NonOwner) = false
-is_owner (Some Empty) = false
 is_owner (Some (Owner place number)) = true
+is_owner _ = false
 
 -- A change is an insert that added a row, or an end that removed one.
 abbrev pub is_change : MachineState → Call → ℕ → Reply → Bool
-is_change m (Opened tables) session reply = false
-is_change m Open session reply = false
 is_change m (Insert place row) session reply = is_added reply
-is_change m (Look list) session reply = false
 is_change m End session reply = is_owner (mode_of m session)
-is_change m Close session reply = false
-is_change m Sync session reply = false
+is_change m _ session reply = false
 
 -- Each change at or before a place has a sync after it.
 abbrev pub IsSettled : List Entry → ℕ → Type 0

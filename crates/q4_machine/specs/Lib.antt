@@ -6,6 +6,7 @@ pub mod Valid
 pub mod History
 pub mod Looked
 pub mod Found
+pub mod Patience
 pub mod Parts
 pub mod Recorded
 pub mod OneDesk

@@ -5,7 +5,7 @@ use Rattle.q4_machine.specs.declared.looks.Listed.{Listed}
 use Rattle.q4_machine.specs.declared.session.SessionMode.TheVariants.{Empty, Owner}
 use Rattle.q4_machine.specs.declared.tables.Opening.{Opening}
 use Rattle.q4_machine.specs.declared.entry.Reply.{Reply}
-use Rattle.q4_machine.specs.declared.entry.Reply.TheVariants.{Done, Session, Added, Seen, Found, Nothing, Refused}
+use Rattle.q4_machine.specs.declared.entry.Reply.TheVariants.{Found, Nothing}
 use Rattle.q4_machine.specs.Machine.{MachineState, table_at, mode_of, owner_at}
 
 -- Each row of the listed table has an owner or does not meet the condition.
@@ -35,8 +35,4 @@ pub record TakesNone (m after : MachineState) (session : ℕ) (list : List Liste
 abbrev pub LookAnswers : MachineState → MachineState → ℕ → List Listed → Reply → Type 0
 LookAnswers m after session list (Found place) = TakesOldest m after session list place
 LookAnswers m after session list Nothing = TakesNone m after session list
-LookAnswers m after session list Done = ⊥
-LookAnswers m after session list (Session n) = ⊥
-LookAnswers m after session list (Added n) = ⊥
-LookAnswers m after session list (Seen n) = ⊥
-LookAnswers m after session list (Refused refusal) = ⊥
+LookAnswers m after session list _ = ⊥

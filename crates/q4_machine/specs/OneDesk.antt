@@ -1,18 +1,18 @@
 -- What holds of a desk in memory.
-use Rattle.std.specs.Prelude.{◌≡◌, ℕ, List, Option, Some, None, [], ◌∷◌}
+use Rattle.std.specs.Prelude.{◌≡◌, ◌<◌, ◌+◌, ℕ, List, Option, Some, None, [], ◌∷◌, length}
 use Rattle.q4_def.specs.declared.table_def.TableDef.{TableDef}
-use Rattle.q4_machine.specs.History.{definitions_of, IsSettled, SyncsAreOwed}
+use Rattle.q4_machine.specs.History.{definitions_of, IsSettled}
 use Rattle.q4_machine.specs.Parts.{IsInOrder}
-use Rattle.q4_machine.specs.Recorded.{Recorded, DeskState, HasRoom, IsSound, opened_new}
+use Rattle.q4_machine.specs.Recorded.{Recorded, DeskState, HasRoom, IsSound, open_sessions, entry_limit, opened_new}
 
--- The history is in order and by caller 0, all of it is settled by syncs that were owed, and there is room for the
--- entry that closes the current session.
+-- The history is in order and by caller 0, all of it is settled, and there is room for the entry that closes each open
+-- session, also within the limit.
 pub record IsDesk (recorded : Recorded) (current : Option ℕ) : Type 0 where
   pub in_order : IsInOrder recorded.seen 0 current
   pub sound : IsSound recorded.seen
   pub settled : (place : ℕ) → IsSettled recorded.seen place
-  pub owed : SyncsAreOwed recorded.seen
-  pub room : (s : ℕ) → current ≡ Some s → HasRoom recorded 1
+  pub room : HasRoom recorded (open_sessions recorded.seen)
+  pub few : length recorded.seen + open_sessions recorded.seen < entry_limit
 
 -- Its definitions are those of its history.
 pub record IsOneDesk (recorded : Recorded) (defs : List TableDef) (current : Option ℕ) : Type 0 where

@@ -1,17 +1,20 @@
 -- What contracts see of a machine that records its history, and of a desk in memory.
-use Rattle.std.specs.Prelude.{◌≡◌, ◌≤◌, ◌<◌, ◌+◌, ◌^◌, ◌++◌, ◌∷◌, [], ℕ, List, Option, All, length, map}
+use Rattle.std.specs.Prelude.{◌≡◌, ◌≤◌, ◌<◌, ◌+◌, ◌^◌, ◌++◌, ◌∷◌, ◌⊎◌, [], ℕ, Bool, true, false, List, Option, All, length, map}
 use Rattle.q4_machine.specs.declared.entry.Entry.{Entry}
 use Rattle.q4_machine.specs.declared.entry.Call.{Call}
-use Rattle.q4_machine.specs.declared.entry.Call.TheVariants.{Opened}
+use Rattle.q4_machine.specs.declared.entry.Call.TheVariants.{Opened, Sync}
 use Rattle.q4_machine.specs.declared.entry.Reply.{Reply}
 use Rattle.q4_machine.specs.declared.entry.Reply.TheVariants.{Done}
 use Rattle.q4_def.specs.declared.table_def.TableDef.{TableDef}
 use Rattle.q4_table.specs.TableState.{new_table}
+use Rattle.q4_machine.specs.declared.desk.DeskFault.TheVariants as desk_fault
+use Rattle.q4_machine.specs.declared.desk.InsertFault.{InsertFault}
+use Rattle.q4_machine.specs.declared.desk.InsertFault.TheVariants.{Desk}
 use Rattle.q4_machine.specs.declared.tables.Opening.{Opening}
 use Rattle.q4_machine.specs.Definitions.{definitions}
-use Rattle.q4_machine.specs.Machine.{MachineState}
+use Rattle.q4_machine.specs.Machine.{MachineState, mode_of}
 use Rattle.q4_machine.specs.History.{state_after, definitions_of, IsLegal}
-use Rattle.q4_machine.specs.Parts.{Answer, Replied, WantsMemory}
+use Rattle.q4_machine.specs.Parts.{is_owner_mode, ending, IsWorn, Answer, Replied, WantsMemory, Worn}
 
 -- its history, and how many entries it has room for
 pub record Recorded : Type 0 where
@@ -30,14 +33,44 @@ entry session call reply = record { caller = 0; session = session; call = call; 
 abbrev pub pushed : Recorded → ℕ → Call → Reply → Recorded
 pushed r session call reply = record { seen = r.seen ++ entry session call reply ∷ []; room = r.room }
 
--- a call's own entry, where it was not for want of memory
+-- a call's own entry, where there is one
 abbrev pub answered : Recorded → ℕ → Call → Answer → Recorded
 answered r session call (Replied reply) = pushed r session call reply
 answered r session call WantsMemory = r
+answered r session call (Worn count) = r
+
+-- An insert that had begun was refused by an entry, or for want of memory.
+abbrev pub IsInsertRefusal : InsertFault → Type 0
+IsInsertRefusal (Desk (desk_fault.Worn count)) = ⊥
+IsInsertRefusal _ = Unit {0}
+
+-- the end of a session in owner mode
+abbrev pub ended_first : Recorded → ℕ → Recorded
+ended_first r session = record { seen = r.seen ++ ending (is_owner_mode (mode_of (state_after r.seen) session)) 0 session; room = r.room }
+
+-- The look was made, and where a sync was owed that stands right before or right behind it.
+abbrev pub LookedUntil : Recorded → Recorded → ℕ → Call → Reply → Bool → Type 0
+LookedUntil old new session call reply false = new ≡ pushed old session call reply
+LookedUntil old new session call reply true =
+    (new ≡ pushed (pushed old session call reply) session Sync Done) ⊎ (new ≡ pushed (pushed old session Sync Done) session call reply)
+
+-- how many entries a desk in memory keeps, with one for each open session
+abbrev pub entry_limit : ℕ
+entry_limit = 1048576
+
+-- how many sessions are open after a history
+abbrev pub open_sessions : List Entry → ℕ
+open_sessions history = length (state_after history).sessions
 
 -- There is room for so many more entries, and a history of so many is legal.
 abbrev pub HasRoom : Recorded → ℕ → Type 0
 HasRoom r count = (length r.seen + count ≤ r.room) × (length r.seen + count < 2 ^ 61)
+
+-- There is room for a call's entries, at most three, and for the closing of each session, one more than there are.
+pub record HasBegun (history : List Entry) (r : Recorded) : Type 0 where
+  pub seen : r.seen ≡ history
+  pub room : HasRoom r (open_sessions history + 4)
+  pub fresh : IsWorn entry_limit history → ⊥
 
 -- The history is legal, its tables have the columns of its first entry, and all of it is by caller 0.
 pub record IsSound (history : List Entry) : Type 0 where

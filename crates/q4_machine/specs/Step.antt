@@ -1,5 +1,5 @@
 -- What each call does to the machine, and what it is answered.
-use Rattle.std.specs.Prelude.{◌≡◌, ◌+◌, ℕ, List, [], ◌∷◌, ◌++◌, Option, None, Some, Result, Ok, Err, All, slice_set}
+use Rattle.std.specs.Prelude.{◌≡◌, ◌==◌, ◌+◌, ◌<◌, ℕ, List, [], ◌∷◌, ◌++◌, Option, None, Some, Result, Ok, Err, All, length, map, filter, take, is_none, slice_set, if◌then◌else◌}
 use Rattle.std.specs.Option.{option_map}
 use Rattle.q4_value.specs.declared.row.Value.{Value}
 use Rattle.q4_table.specs.declared.adding.Added as added
@@ -15,11 +15,12 @@ use Rattle.q4_table.specs.Adding.{check_of, add_row}
 use Rattle.q4_machine.specs.declared.session.SessionMode.{SessionMode}
 use Rattle.q4_machine.specs.declared.session.SessionMode.TheVariants.{NonOwner, Empty, Owner}
 use Rattle.q4_machine.specs.declared.entry.Call.{Call}
-use Rattle.q4_machine.specs.declared.entry.Call.TheVariants.{Opened, Open, Insert, Look, End, Close, Sync}
+use Rattle.q4_machine.specs.declared.entry.Call.TheVariants.{Opened, Open, Insert, Look, End, Abort, RowId, Select, Close, Sync}
 use Rattle.q4_machine.specs.declared.entry.Reply.{Reply}
-use Rattle.q4_machine.specs.declared.entry.Reply.TheVariants.{Done, Session, Added, Seen, Found, Nothing, Refused}
+use Rattle.q4_machine.specs.declared.entry.Reply.TheVariants.{Done, Session, Added, Seen, Found, Nothing, Number, Shown, Refused}
 use Rattle.q4_machine.specs.declared.entry.Refusal.{Refusal}
-use Rattle.q4_machine.specs.declared.entry.Refusal.TheVariants.{NotOwner, Spent, Rows, Bytes}
+use Rattle.q4_machine.specs.declared.entry.Refusal.TheVariants.{NotOwner, NoRow, Spent, Rows, Bytes}
+use Rattle.q4_machine.specs.declared.shown.NumberedRow.{NumberedRow}
 use Rattle.q4_machine.specs.Definitions.{definitions, IsRowFor, IsListed}
 use Rattle.q4_machine.specs.Machine.{MachineState, opening_at, table_at, with_mode, without_session, mode_of, IsSessionOpen}
 use Rattle.q4_machine.specs.Pick.{Picked, pick}
@@ -62,6 +63,35 @@ ended m session (Some Empty) = (with_session m session NonOwner, Done)
 ended m session (Some (Owner place number)) = (with_session (with_rows m place (without_row number)) session NonOwner, Done)
 ended m session None = (m, Done)
 
+-- an abort gives the owned row back to its place and leaves owner mode
+abbrev pub aborted : MachineState → ℕ → Option SessionMode → MachineState × Reply
+aborted m session (Some NonOwner) = (m, Refused NotOwner)
+aborted m session (Some Empty) = (with_session m session NonOwner, Done)
+aborted m session (Some (Owner place number)) = (with_session (with_rows m place (with_owner number None)) session NonOwner, Done)
+aborted m session None = (m, Done)
+
+-- the number of the owned row
+abbrev pub row_number : Option SessionMode → Reply
+row_number (Some NonOwner) = Refused NotOwner
+row_number (Some Empty) = Refused NoRow
+row_number (Some (Owner place number)) = Number number
+row_number None = Done
+
+-- the rows of a table that a session sees: in non-owner mode those that nobody owns, in owner mode its own row in that
+-- row's table alone
+abbrev pub visible : MachineState → ℕ → Option SessionMode → List StoredRow
+visible m place (Some NonOwner) = filter (λ r. is_none r.owner) (table_at m.tables place).rows
+visible m place (Some Empty) = []
+visible m place (Some (Owner own number)) = if own == place then filter (λ r. r.number == number) (table_at m.tables place).rows else []
+visible m place None = []
+
+abbrev pub numbered : StoredRow → NumberedRow
+numbered r = record { number = r.number; row = r.row }
+
+-- what a select shows: the first of the visible rows, by rising number
+abbrev pub shown : MachineState → ℕ → ℕ → ℕ → List NumberedRow
+shown m session place most = map numbered (take most (visible m place (mode_of m session)))
+
 -- a closing gives the owned row back to its place
 abbrev pub closed : MachineState → ℕ → Option SessionMode → MachineState × Reply
 closed m session (Some NonOwner) = (with_none m session, Done)
@@ -75,6 +105,9 @@ step m session Open = (record m { sessions = m.sessions ++ record { session = m.
 step m session (Insert place row) = inserted m place row (check_of (table_at m.tables place) row None)
 step m session (Look list) = looked m session (pick m list)
 step m session End = ended m session (mode_of m session)
+step m session Abort = aborted m session (mode_of m session)
+step m session RowId = (m, row_number (mode_of m session))
+step m session (Select place most) = (m, Shown (shown m session place most))
 step m session Close = closed m session (mode_of m session)
 step m session Sync = (m, Done)
 
@@ -85,10 +118,13 @@ MayStep m session Open = session ≡ m.next_session
 MayStep m session (Insert place row) = IsSessionOpen m session × IsRowFor (definitions m.tables) place row
 MayStep m session (Look list) = (mode_of m session ≡ Some NonOwner) × All (IsListed (definitions m.tables)) list
 MayStep m session End = IsSessionOpen m session
+MayStep m session Abort = IsSessionOpen m session
+MayStep m session RowId = IsSessionOpen m session
+MayStep m session (Select place most) = IsSessionOpen m session × (place < length (definitions m.tables))
 MayStep m session Close = IsSessionOpen m session
 MayStep m session Sync = IsSessionOpen m session
 
--- the replies to an insert, a look and an end, from what the machine's calls return
+-- the replies to an insert, a look, an end, an abort and a question for the row, from what the machine's calls return
 abbrev pub added_reply : added.Added → Reply
 added_reply (NewRow number) = Added number
 added_reply (SeenRow mark) = Seen mark
@@ -100,6 +136,14 @@ look_reply None = Nothing
 abbrev pub end_reply : Result (Option (ℕ × ℕ)) Refusal → Reply
 end_reply (Ok row) = Done
 end_reply (Err refusal) = Refused refusal
+
+abbrev pub abort_reply : Result (Unit {0}) Refusal → Reply
+abort_reply (Ok done) = Done
+abort_reply (Err refusal) = Refused refusal
+
+abbrev pub row_reply : Result ℕ Refusal → Reply
+row_reply (Ok number) = Number number
+row_reply (Err refusal) = Refused refusal
 
 -- the refusal that a row was not added for; want of memory is none
 abbrev pub add_refusal : AddFault → Option Refusal

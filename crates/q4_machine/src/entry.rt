@@ -1,4 +1,4 @@
-use crate::{Looks, Tables};
+use crate::{Looks, Rows, Tables};
 use q4_value::Row;
 
 /// What a history keeps of a call.
@@ -11,6 +11,10 @@ pub enum Call {
     Insert(u32, Row),
     Look(Looks),
     End,
+    Abort,
+    RowId,
+    /// The place of the table, from 0, and how many rows at most.
+    Select(u32, u32),
     Close,
     /// Every change before it was made safe.
     Sync,
@@ -21,6 +25,8 @@ pub enum Call {
 pub enum Refusal {
     /// The session is not in owner mode.
     NotOwner,
+    /// The session is in owner mode and owns no row.
+    NoRow,
     /// The table's row numbers are used up.
     Spent,
     /// The table has 250,000 rows.
@@ -30,7 +36,7 @@ pub enum Refusal {
 }
 
 /// What a call was answered.
-#[derive(Clone, Copy, Debug, PartialEq, Eq)]
+#[derive(Drop)]
 pub enum Reply {
     Done,
     /// The number of the session that was opened.
@@ -41,7 +47,12 @@ pub enum Reply {
     Seen(u64),
     /// The place in the list of the wait, from 1, whose table gave the row.
     Found(u32),
+    /// The time was over, and no table of the list had a row to take.
     Nothing,
+    /// The number of the owned row.
+    Number(u64),
+    /// The rows that the session sees, oldest first.
+    Shown(Rows),
     Refused(Refusal),
 }
 

@@ -1,17 +1,18 @@
-ghost use Rattle.std.specs.Prelude.{◌≡◌, ◌<◌, ◌≤◌, ◌^◌, [], Some, None, All, length, IfOk, IfErr, OnOk, OnErr};
+ghost use Rattle.std.specs.Prelude.{◌≡◌, ◌<◌, ◌≤◌, ◌^◌, ◌↔◌, ◌||◌, [], true, false, Some, None, All, length, filter, is_none, is_some, map, take, IsTrue, IfSome, IfOk, IfErr, OnOk, OnErr};
 ghost use Rattle.std.specs.Option.{option_map, ForSome};
 ghost use Rattle.q4_table.specs.Adding.{check_of, IsRefused};
 ghost use Rattle.q4_machine.specs.declared.entry.Call.TheVariants as call;
 ghost use Rattle.q4_machine.specs.declared.entry.Reply.TheVariants as reply;
 ghost use Rattle.q4_machine.specs.Definitions.{definitions, IsRowFor, IsListed};
 ghost use Rattle.q4_machine.specs.Machine.{mode_of, in_mode, with_mode, without_session, session_in, table_at, IsSessionOpen};
-ghost use Rattle.q4_machine.specs.Pick.{pick_from};
-ghost use Rattle.q4_machine.specs.Step.{step, look_reply, end_reply, insert_reply, owned_row};
-ghost use Rattle.q4_machine.specs.Valid.{AreValidTables};
+ghost use Rattle.q4_machine.specs.Pick.{pick, pick_from};
+ghost use Rattle.q4_machine.specs.Step.{step, look_reply, end_reply, abort_reply, row_reply, insert_reply, owned_row, shown, numbered};
+ghost use Rattle.q4_machine.specs.Valid.{AreValidTables, IsValid};
 ghost use Rattle.q4_machine.specs.History.{AreUnowned};
 ghost use Rattle.q4_machine.specs.Found.{picked_of};
 
-use crate::{Listed, Looks, OpenSession, Opening, Refusal, SessionMode, Tables};
+use crate::select::{shown_row, unowned_rows};
+use crate::{Listed, Looks, OpenSession, Opening, Refusal, Rows, SessionMode, Tables};
 use q4_table::{AddFault, Added, Check, Table};
 use q4_value::{NoMemory, Row};
 use std::alloc::Global;
@@ -59,10 +60,18 @@ impl Machine {
         }
     }
 
+    /// Whether a session is open.
+    pub fn is_open(&self, session: u64) -> bool
+        ensures { IsTrue result ↔ IsSessionOpen self.now session }
+    {
+        mode_in(&self.sessions, session).is_some()
+    }
+
     /// The mode of an open session.
     pub fn mode(&self, session: u64) -> SessionMode
         requires { IsSessionOpen self.now session }
-        ensures { mode_of self.now session ≡ Some result }
+        ensures mode { mode_of self.now session ≡ Some result }
+        ensures valid { IsValid self.now }
     {
         match mode_in(&self.sessions, session) {
             Some(mode) => mode,
@@ -125,11 +134,13 @@ impl Machine {
     }
 
     /// Takes the oldest unowned row that meets the condition of the earliest entry of the list that has one, and tells
-    /// that entry's place, from 1. Without one the session is in owner mode without a row.
-    pub fn look(&mut self, session: u64, list: &Looks) -> Option<u32>
+    /// that entry's place, from 1. Without one it changes nothing where the time is not `over`; where it is, the session
+    /// is in owner mode without a row.
+    pub fn look(&mut self, session: u64, list: &Looks, over: bool) -> Option<u32>
         requires mode { mode_of self.old session ≡ Some SessionMode.NonOwner }
         requires listed { All (IsListed (definitions self.old.tables)) list.now }
-        ensures { step self.old session (call.Look list.now) ≡ (self.new, look_reply result) }
+        ensures step { (is_some result || over) ≡ true → step self.old session (call.Look list.now) ≡ (self.new, look_reply result) }
+        ensures waits { (is_some result || over) ≡ false → (self.new ≡ self.old) × (pick self.old list.now ≡ None) }
     {
         match oldest_listed(&self.tables, list.as_slice()) {
             Some(found) => {
@@ -143,7 +154,9 @@ impl Machine {
                 Some(found.place)
             }
             None => {
-                set_mode(&mut self.sessions, session, SessionMode::Empty);
+                if over {
+                    set_mode(&mut self.sessions, session, SessionMode::Empty);
+                }
                 None
             }
         }
@@ -169,6 +182,70 @@ impl Machine {
                 Ok(Some((place, number)))
             }
         }
+    }
+
+    /// Gives the owned row back to its place, and leaves owner mode.
+    pub fn abort(&mut self, session: u64) -> Result<(), Refusal>
+        requires { IsSessionOpen self.old session }
+        ensures step { step self.old session call.Abort ≡ (self.new, abort_reply result) }
+        ensures refused { IfErr result (λ refusal. refusal ≡ Refusal.NotOwner) }
+    {
+        match self.mode(session) {
+            SessionMode::NonOwner => Err(Refusal::NotOwner),
+            SessionMode::Empty => {
+                set_mode(&mut self.sessions, session, SessionMode::NonOwner);
+                Ok(())
+            }
+            SessionMode::Owner(place, number) => {
+                let opening = &mut self.tables[place as usize];
+                opening.table.release(number);
+                set_mode(&mut self.sessions, session, SessionMode::NonOwner);
+                Ok(())
+            }
+        }
+    }
+
+    /// The number of the owned row.
+    pub fn row_id(&self, session: u64) -> Result<u64, Refusal>
+        requires { IsSessionOpen self.now session }
+        ensures { step self.now session call.RowId ≡ (self.now, row_reply result) }
+    {
+        match self.mode(session) {
+            SessionMode::NonOwner => Err(Refusal::NotOwner),
+            SessionMode::Empty => Err(Refusal::NoRow),
+            SessionMode::Owner(_, number) => Ok(number),
+        }
+    }
+
+    /// The first rows, at most so many, that the session sees of the table at this place, in memory of their own.
+    pub fn select(
+        &self,
+        alloc: Global,
+        session: u64,
+        table: u32,
+        most: u32,
+    ) -> Result<Rows, NoMemory>
+        requires is_open { IsSessionOpen self.now session }
+        requires inside { table < length self.now.tables }
+        ensures { IfOk result (λ rows. step self.now session (call.Select table most) ≡ (self.now, reply.Shown rows)) }
+    {
+        match self.mode(session) {
+            SessionMode::NonOwner => unowned_rows(alloc, self.table(table), most),
+            SessionMode::Empty => Ok(Rows::new(alloc)),
+            SessionMode::Owner(own, number) => {
+                if own != table {
+                    return Ok(Rows::new(alloc));
+                }
+                shown_row(alloc, self.table(table), number, most)
+            }
+        }
+    }
+
+    /// How many sessions are open.
+    pub fn sessions(&self) -> u64
+        ensures { result ≡ length self.now.sessions }
+    {
+        self.sessions.len() as u64
     }
 
     /// Gives the owned row back to its place. The session is no longer open.

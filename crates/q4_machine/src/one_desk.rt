@@ -1,10 +1,19 @@
-ghost use Rattle.std.specs.Prelude.{◌≡◌, ℕ, List, Option, Some, None, IfOk};
-ghost use Rattle.q4_machine.specs.History.{IsSettled, SyncsAreOwed};
-ghost use Rattle.q4_machine.specs.Recorded.{IsSound};
+ghost use Rattle.std.specs.Prelude.{◌≡◌, ◌⊎◌, ℕ, List, Option, Some, None, All, IfOk, IfErr};
+ghost use Rattle.q4_machine.specs.declared.entry.Call.TheVariants as call;
+ghost use Rattle.q4_machine.specs.Definitions.{IsListed};
+ghost use Rattle.q4_machine.specs.Machine.{mode_of};
+ghost use Rattle.q4_machine.specs.Step.{look_reply, abort_reply, row_reply};
+ghost use Rattle.q4_machine.specs.Parts.{Replied, mode_answer, row_answer};
+ghost use Rattle.q4_machine.specs.History.{state_after, definitions_of, is_owner, IsOpenFor, IsSettled, SyncsAreOwed};
+ghost use Rattle.q4_machine.specs.Patience.{Looked};
+ghost use Rattle.q4_machine.specs.Recorded.{HasRoom, IsSound, entry_limit, ended_first, LookedUntil};
 ghost use Rattle.q4_machine.specs.OneDesk.{IsNew};
 
 use crate::recorded::RecordedMachine;
-use crate::{Desk, DeskFault, Entry, InsertFault, Looks, ModeFault, SessionMode};
+use crate::{
+    Desk, DeskFault, Entry, InsertFault, Looks, ModeFault, Patience, Refusal, Rows, Seats,
+    SessionMode,
+};
 use q4_def::Defs;
 use q4_table::Added;
 use q4_value::{NoMemory, Row};
@@ -64,33 +73,37 @@ impl OneDesk {
 }
 
 impl Desk for OneDesk {
+    type Leave = ();
+
     ghost seen = { λ d. d.seen };
 
     ghost caller = { λ _. 0 };
 
     ghost current = { λ d. d.current };
 
+    ghost limit = { λ _. entry_limit };
+
     fn defs(&self) -> &Defs {
         &self.defs
     }
 
-    fn open(&mut self) -> Result<u64, DeskFault> {
-        self.recorded.reserve(2)?;
+    fn open(&mut self, _leave: &()) -> Result<u64, DeskFault> {
+        self.recorded.begin()?;
         let session = self.recorded.open()?;
         self.current = Some(session);
         Ok(session)
     }
 
-    fn insert(&mut self, table: u32, row: Row) -> Result<Added, InsertFault> {
+    fn insert(&mut self, _leave: &(), table: u32, row: Row) -> Result<Added, InsertFault> {
         let Some(session) = self.current else {
             unreachable!()
         };
+        if let Err(fault) = self.recorded.begin() {
+            return Err(InsertFault::Desk(fault));
+        }
         let Ok(copy) = row.copy(self.alloc) else {
             return Err(InsertFault::Desk(DeskFault::Memory));
         };
-        if let Err(fault) = self.recorded.reserve(3) {
-            return Err(InsertFault::Desk(fault));
-        }
         match self.recorded.insert(session, table, row, copy) {
             Ok(Added::New(number)) => {
                 self.recorded.sync(session);
@@ -101,34 +114,32 @@ impl Desk for OneDesk {
         }
     }
 
-    fn wait(&mut self, list: &Looks) -> Result<Option<u32>, DeskFault> {
+    fn wait<P: Patience>(
+        &mut self,
+        _leave: &(),
+        list: &Looks,
+        seconds: u32,
+        patience: &mut P,
+    ) -> Result<Option<u32>, DeskFault> {
         let Some(session) = self.current else {
             unreachable!()
         };
+        if let Err(fault) = self.recorded.begin() {
+            return Err(fault);
+        }
         let Ok(copy) = list.copy(self.alloc) else {
             return Err(DeskFault::Memory);
         };
-        self.recorded.reserve(4)?;
-        match self.recorded.mode(session) {
-            SessionMode::NonOwner => Ok(self.recorded.look(session, copy)),
-            SessionMode::Empty => {
-                let _ = self.recorded.end(session);
-                Ok(self.recorded.look(session, copy))
-            }
-            SessionMode::Owner(_, _) => {
-                let _ = self.recorded.end(session);
-                let place = self.recorded.look(session, copy);
-                self.recorded.sync(session);
-                Ok(place)
-            }
-        }
+        patience.start(seconds);
+        let owes = end_first(&mut self.recorded, session);
+        Ok(look_until(&mut self.recorded, session, copy, owes, patience))
     }
 
-    fn end(&mut self) -> Result<(), ModeFault> {
+    fn end(&mut self, _leave: &()) -> Result<(), ModeFault> {
         let Some(session) = self.current else {
             unreachable!()
         };
-        if let Err(fault) = self.recorded.reserve(3) {
+        if let Err(fault) = self.recorded.begin() {
             return Err(ModeFault::Desk(fault));
         }
         match self.recorded.end(session) {
@@ -141,10 +152,140 @@ impl Desk for OneDesk {
         }
     }
 
-    fn close(&mut self) {
+    fn abort(&mut self, _leave: &()) -> Result<(), ModeFault> {
+        let Some(session) = self.current else {
+            unreachable!()
+        };
+        if let Err(fault) = self.recorded.begin() {
+            return Err(ModeFault::Desk(fault));
+        }
+        abort_result(self.recorded.abort(session))
+    }
+
+    fn row_id(&mut self, _leave: &()) -> Result<u64, ModeFault> {
+        let Some(session) = self.current else {
+            unreachable!()
+        };
+        if let Err(fault) = self.recorded.begin() {
+            return Err(ModeFault::Desk(fault));
+        }
+        row_result(self.recorded.row_id(session))
+    }
+
+    fn select(&mut self, _leave: &(), table: u32, most: u32) -> Result<Rows, DeskFault> {
+        let Some(session) = self.current else {
+            unreachable!()
+        };
+        if let Err(fault) = self.recorded.begin() {
+            return Err(fault);
+        }
+        self.recorded.select(self.alloc, session, table, most)
+    }
+
+    fn close(&mut self, _leave: &()) {
         if let Some(session) = self.current {
             self.recorded.close(session);
             self.current = None;
+        }
+    }
+}
+
+impl Seats for OneDesk {
+    fn choose(&mut self, session: u64) -> bool {
+        if !self.recorded.is_open(session) {
+            return false;
+        }
+        self.current = Some(session);
+        true
+    }
+
+    fn stand_up(&mut self) {
+        self.current = None;
+    }
+}
+
+// What the desk answers to an abort, from what the machine did.
+fn abort_result(answer: Result<(), Refusal>) -> Result<(), ModeFault>
+    requires { IfErr answer (λ refusal. refusal ≡ Refusal.NotOwner) }
+    ensures { mode_answer result ≡ Replied (abort_reply answer) }
+{
+    match answer {
+        Ok(()) => Ok(()),
+        Err(_) => Err(ModeFault::NotOwner),
+    }
+}
+
+// What the desk answers to the question for the owned row.
+fn row_result(answer: Result<u64, Refusal>) -> Result<u64, ModeFault>
+    requires { IfErr answer (λ refusal. (refusal ≡ Refusal.NotOwner) ⊎ (refusal ≡ Refusal.NoRow)) }
+    ensures { row_answer result ≡ Replied (row_reply answer) }
+{
+    match answer {
+        Ok(number) => Ok(number),
+        Err(Refusal::NoRow) => Err(ModeFault::NoRow),
+        Err(_) => Err(ModeFault::NotOwner),
+    }
+}
+
+// Ends where the session is in owner mode, and tells whether that is owed a sync.
+fn end_first(recorded: &mut RecordedMachine, session: u64) -> bool
+    requires room { HasRoom recorded.old 1 }
+    requires is_open { IsOpenFor recorded.old.seen 0 session }
+    ensures ended { recorded.new ≡ ended_first recorded.old session }
+    ensures owes { result ≡ is_owner (mode_of (state_after recorded.old.seen) session) }
+    ensures is_open { IsOpenFor recorded.new.seen 0 session }
+    ensures mode { mode_of (state_after recorded.new.seen) session ≡ Some SessionMode.NonOwner }
+    ensures sound { IsSound recorded.new.seen }
+    ensures defined { definitions_of recorded.new.seen ≡ definitions_of recorded.old.seen }
+{
+    match recorded.mode(session) {
+        SessionMode::NonOwner => false,
+        SessionMode::Empty => {
+            let _ = recorded.end(session);
+            false
+        }
+        SessionMode::Owner(_, _) => {
+            let _ = recorded.end(session);
+            true
+        }
+    }
+}
+
+// Looks until a row is found or the time is over. What is owed a sync gets it before the first pause, or else behind
+// the look.
+fn look_until<P: Patience>(
+    recorded: &mut RecordedMachine,
+    session: u64,
+    list: Looks,
+    owes: bool,
+    patience: &mut P,
+) -> Option<u32>
+    requires room { HasRoom recorded.old 3 }
+    requires is_open { IsOpenFor recorded.old.seen 0 session }
+    requires mode { mode_of (state_after recorded.old.seen) session ≡ Some SessionMode.NonOwner }
+    requires listed { All (IsListed (definitions_of recorded.old.seen)) list }
+    ensures looked { LookedUntil recorded.old recorded.new session (call.Look list) (look_reply result) owes }
+    ensures is_open { IsOpenFor recorded.new.seen 0 session }
+    ensures sound { IsSound recorded.new.seen }
+    ensures defined { definitions_of recorded.new.seen ≡ definitions_of recorded.old.seen }
+    ensures patience { Looked (P.state patience.old) (P.state patience.new) result }
+{
+    let mut list = list;
+    let mut owes = owes;
+    loop {
+        let over = patience.over();
+        match recorded.look(session, list, over) {
+            Ok(place) => {
+                if owes {
+                    recorded.sync(session);
+                }
+                return place;
+            }
+            Err(back) => list = back,
+        }
+        if owes {
+            recorded.sync(session);
+            owes = false;
         }
     }
 }

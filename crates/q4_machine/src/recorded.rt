@@ -1,16 +1,16 @@
-ghost use Rattle.std.specs.Prelude.{◌≡◌, ◌≤◌, ◌<◌, [], ◌∷◌, Some, All, IfOk, IfErr, OnOk, OnErr, is_some};
+ghost use Rattle.std.specs.Prelude.{◌≡◌, ◌≤◌, ◌<◌, ◌⊎◌, ◌↔◌, ◌||◌, [], ◌∷◌, true, false, Ok, Some, None, All, length, IsTrue, IfOk, IfErr, OnOk, OnErr, is_some};
 ghost use Rattle.q4_def.specs.Tables.{AreDefs};
 ghost use Rattle.q4_machine.specs.declared.entry.Call.TheVariants as call;
 ghost use Rattle.q4_machine.specs.declared.entry.Reply.TheVariants as reply;
 ghost use Rattle.q4_machine.specs.Definitions.{IsRowFor, IsListed};
-ghost use Rattle.q4_machine.specs.Machine.{mode_of};
-ghost use Rattle.q4_machine.specs.Step.{look_reply, end_reply, insert_reply};
-ghost use Rattle.q4_machine.specs.Parts.{insert_answer, replied};
+ghost use Rattle.q4_machine.specs.Machine.{mode_of, IsSessionOpen};
+ghost use Rattle.q4_machine.specs.Step.{look_reply, end_reply, abort_reply, row_reply, insert_reply};
+ghost use Rattle.q4_machine.specs.Parts.{IsWorn, insert_answer, select_answer, replied};
 ghost use Rattle.q4_machine.specs.History.{state_after, definitions_of, is_owner, IsOpenFor};
-ghost use Rattle.q4_machine.specs.Recorded.{pushed, answered, opened_new, HasRoom, IsSound};
+ghost use Rattle.q4_machine.specs.Recorded.{pushed, answered, opened_new, entry_limit, IsInsertRefusal, HasRoom, HasBegun, IsSound};
 
 use crate::{
-    Call, DeskFault, Entry, InsertFault, Looks, Machine, Refusal, Reply, SessionMode, Tables,
+    Call, DeskFault, Entry, InsertFault, Looks, Machine, Refusal, Reply, Rows, SessionMode, Tables,
 };
 use q4_def::Defs;
 use q4_table::{AddFault, Added};
@@ -18,8 +18,8 @@ use q4_value::{NoMemory, Row};
 use std::alloc::Global;
 use std::marker::Model;
 
-/// Histories of more entries want memory.
-const ENTRY_LIMIT: usize = 1 << 61;
+/// The entries of a history and its open sessions come to no more.
+const ENTRY_LIMIT: usize = 1_048_576;
 
 /// A machine that records each call as an entry of caller 0.
 #[derive(Drop)]
@@ -76,17 +76,19 @@ impl RecordedMachine {
         self.history.as_slice()
     }
 
-    /// Makes room for this many entries.
-    pub fn reserve(&mut self, count: usize) -> Result<(), DeskFault>
-        requires { count < 16 }
+    /// Makes room for the entries of a call, and for the closing of each open session. It is worn where the limit has none.
+    pub fn begin(&mut self) -> Result<(), DeskFault>
         ensures seen { self.new.seen ≡ self.old.seen }
         ensures kept { self.old.room ≤ self.new.room }
-        ensures room { OnOk result (HasRoom self.new count) }
+        ensures begun { OnOk result (HasBegun self.old.seen self.new) }
+        ensures worn { IfErr result (λ fault. fault ≡ DeskFault.Memory ⊎ ((fault ≡ DeskFault.Worn (length self.old.seen)) × IsWorn entry_limit self.old.seen)) }
     {
-        if self.history.len() >= ENTRY_LIMIT - count {
-            return Err(DeskFault::Memory);
+        let entries = self.history.len();
+        let sessions = self.machine.sessions() as usize;
+        if sessions > ENTRY_LIMIT || entries + sessions + 4 > ENTRY_LIMIT {
+            return Err(DeskFault::Worn(entries as u64));
         }
-        match self.history.reserve(count) {
+        match self.history.reserve(sessions + 4) {
             Ok(()) => Ok(()),
             Err(_) => Err(DeskFault::Memory),
         }
@@ -95,7 +97,8 @@ impl RecordedMachine {
     /// The mode of an open session.
     pub fn mode(&self, session: u64) -> SessionMode
         requires { IsOpenFor self.now.seen 0 session }
-        ensures { mode_of (state_after self.now.seen) session ≡ Some result }
+        ensures mode { mode_of (state_after self.now.seen) session ≡ Some result }
+        ensures sound { IsSound self.now.seen }
     {
         self.machine.mode(session)
     }
@@ -107,6 +110,7 @@ impl RecordedMachine {
         ensures sound { IsSound self.new.seen }
         ensures defined { definitions_of self.new.seen ≡ definitions_of self.old.seen }
         ensures kept { OnErr result (self.new ≡ self.old) }
+        ensures memory { IfErr result (λ fault. fault ≡ DeskFault.Memory) }
     {
         match self.machine.open() {
             Ok(session) => {
@@ -134,6 +138,7 @@ impl RecordedMachine {
         ensures is_open { IsOpenFor self.new.seen 0 session }
         ensures sound { IsSound self.new.seen }
         ensures defined { definitions_of self.new.seen ≡ definitions_of self.old.seen }
+        ensures entered { IfErr result IsInsertRefusal }
     {
         let answer = desk_answer(self.machine.insert(session, table, row));
         match reply_of(&answer) {
@@ -146,21 +151,28 @@ impl RecordedMachine {
         }
     }
 
-    /// A look of a session in non-owner mode.
-    pub fn look(&mut self, session: u64, list: Looks) -> Option<u32>
+    /// A look of a session in non-owner mode. Where it finds none and the time is not over it is no entry, and gives the
+    /// list back.
+    pub fn look(&mut self, session: u64, list: Looks, over: bool) -> Result<Option<u32>, Looks>
         requires room { HasRoom self.old 1 }
         requires is_open { IsOpenFor self.old.seen 0 session }
         requires mode { mode_of (state_after self.old.seen) session ≡ Some SessionMode.NonOwner }
         requires listed { All (IsListed (definitions_of self.old.seen)) list }
-        ensures looked { self.new ≡ pushed self.old session (call.Look list) (look_reply result) }
+        ensures looked { IfOk result (λ place. self.new ≡ pushed self.old session (call.Look list) (look_reply place)) }
+        ensures over { result ≡ Ok None → over ≡ true }
+        ensures waits { IfErr result (λ back. (self.new ≡ self.old) × (back ≡ list) × (over ≡ false)) }
         ensures is_open { IsOpenFor self.new.seen 0 session }
         ensures sound { IsSound self.new.seen }
         ensures defined { definitions_of self.new.seen ≡ definitions_of self.old.seen }
     {
-        let place = self.machine.look(session, &list);
-        self.history
-            .push_reserved(entry(session, Call::Look(list), look_outcome(place)));
-        place
+        let place = self.machine.look(session, &list, over);
+        if ends_wait(place, over) {
+            self.history
+                .push_reserved(entry(session, Call::Look(list), look_outcome(place)));
+            Ok(place)
+        } else {
+            Err(list)
+        }
     }
 
     /// It tells the row that was removed. The session is in non-owner mode then.
@@ -182,6 +194,65 @@ impl RecordedMachine {
         ended
     }
 
+    /// It gives the owned row back.
+    pub fn abort(&mut self, session: u64) -> Result<(), Refusal>
+        requires room { HasRoom self.old 1 }
+        requires is_open { IsOpenFor self.old.seen 0 session }
+        ensures aborted { self.new ≡ pushed self.old session call.Abort (abort_reply result) }
+        ensures refusal { IfErr result (λ refusal. refusal ≡ Refusal.NotOwner) }
+        ensures is_open { IsOpenFor self.new.seen 0 session }
+        ensures sound { IsSound self.new.seen }
+        ensures defined { definitions_of self.new.seen ≡ definitions_of self.old.seen }
+    {
+        let aborted = self.machine.abort(session);
+        self.history
+            .push_reserved(entry(session, Call::Abort, abort_outcome(&aborted)));
+        aborted
+    }
+
+    /// The number of the owned row.
+    pub fn row_id(&mut self, session: u64) -> Result<u64, Refusal>
+        requires room { HasRoom self.old 1 }
+        requires is_open { IsOpenFor self.old.seen 0 session }
+        ensures told { self.new ≡ pushed self.old session call.RowId (row_reply result) }
+        ensures refusal { IfErr result (λ refusal. (refusal ≡ Refusal.NotOwner) ⊎ (refusal ≡ Refusal.NoRow)) }
+        ensures is_open { IsOpenFor self.new.seen 0 session }
+        ensures sound { IsSound self.new.seen }
+        ensures defined { definitions_of self.new.seen ≡ definitions_of self.old.seen }
+    {
+        let told = self.machine.row_id(session);
+        self.history
+            .push_reserved(entry(session, Call::RowId, row_outcome(&told)));
+        told
+    }
+
+    /// The rows that the session sees, twice: the history keeps a copy. Want of memory leaves no entry.
+    pub fn select(
+        &mut self,
+        alloc: Global,
+        session: u64,
+        table: u32,
+        most: u32,
+    ) -> Result<Rows, DeskFault>
+        requires room { HasRoom self.old 1 }
+        requires is_open { IsOpenFor self.old.seen 0 session }
+        requires inside { table < length (definitions_of self.old.seen) }
+        ensures shown { self.new ≡ answered self.old session (call.Select table most) (select_answer result) }
+        ensures memory { IfErr result (λ fault. fault ≡ DeskFault.Memory) }
+        ensures is_open { IsOpenFor self.new.seen 0 session }
+        ensures sound { IsSound self.new.seen }
+        ensures defined { definitions_of self.new.seen ≡ definitions_of self.old.seen }
+    {
+        let Ok(rows) = self.machine.select(alloc, session, table, most) else {
+            return Err(DeskFault::Memory);
+        };
+        let Ok(copy) = rows.copy(alloc) else {
+            return Err(DeskFault::Memory);
+        };
+        self.history.push_reserved(entry(session, Call::Select(table, most), Reply::Shown(copy)));
+        Ok(rows)
+    }
+
     pub fn close(&mut self, session: u64)
         requires room { HasRoom self.old 1 }
         requires is_open { IsOpenFor self.old.seen 0 session }
@@ -192,6 +263,13 @@ impl RecordedMachine {
         self.machine.close(session);
         self.history
             .push_reserved(entry(session, Call::Close, Reply::Done));
+    }
+
+    /// Whether a session is open.
+    pub fn is_open(&self, session: u64) -> bool
+        ensures { IsTrue result ↔ IsSessionOpen (state_after self.now.seen) session }
+    {
+        self.machine.is_open(session)
     }
 
     /// In memory every change is safe at once.
@@ -221,7 +299,8 @@ fn entry(session: u64, call: Call, reply: Reply) -> Entry
 
 // What a desk answers, from what the machine did.
 fn desk_answer(answer: Result<Added, (AddFault, Row)>) -> Result<Added, InsertFault>
-    ensures { replied (insert_answer result) ≡ insert_reply answer }
+    ensures reply { replied (insert_answer result) ≡ insert_reply answer }
+    ensures entered { IfErr result IsInsertRefusal }
 {
     match answer {
         Ok(added) => Ok(added),
@@ -242,7 +321,32 @@ fn reply_of(answer: &Result<Added, InsertFault>) -> Option<Reply>
         Err(InsertFault::Spent) => Some(Reply::Refused(Refusal::Spent)),
         Err(InsertFault::Rows) => Some(Reply::Refused(Refusal::Rows)),
         Err(InsertFault::Bytes(sum)) => Some(Reply::Refused(Refusal::Bytes(*sum))),
-        Err(InsertFault::Desk(DeskFault::Memory)) => None,
+        Err(InsertFault::Desk(_)) => None,
+    }
+}
+
+// Whether a look is the last of its wait.
+fn ends_wait(place: Option<u32>, over: bool) -> bool
+    ensures { result ≡ (is_some place || over) }
+{
+    place.is_some() || over
+}
+
+fn abort_outcome(aborted: &Result<(), Refusal>) -> Reply
+    ensures { result ≡ abort_reply aborted.now }
+{
+    match aborted {
+        Ok(()) => Reply::Done,
+        Err(refusal) => Reply::Refused(*refusal),
+    }
+}
+
+fn row_outcome(told: &Result<u64, Refusal>) -> Reply
+    ensures { result ≡ row_reply told.now }
+{
+    match told {
+        Ok(number) => Reply::Number(*number),
+        Err(refusal) => Reply::Refused(*refusal),
     }
 }
 

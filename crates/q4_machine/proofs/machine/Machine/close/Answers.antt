@@ -9,26 +9,26 @@ use Rattle.q4_machine.proofs.machine.Machine.close.Goals as goal
 pub invariant_of-self : goal.invariant_of-self
 invariant_of-self c =
     let m : MachineState = record { tables = c.self.inside.tables.items; sessions = c.self.inside.sessions.items; next_session = c.self.inside.next_session } in
-    let was = subst (λ (x : MachineState). mode_of x c.args.session ≡ Some NonOwner) (sym c.self.view_is) c.in-NonOwner.ensures in
+    let was = subst (λ (x : MachineState). mode_of x c.args.session ≡ Some NonOwner) (sym c.self.view_is) c.in-NonOwner.ensures.mode in
     rw c.remove_session.ensures (valid_left m c.args.session NonOwner c.self.invariant was not_owner)
 
 pub invariant_of-self-in-Empty : goal.invariant_of-self-in-Empty
 invariant_of-self-in-Empty c =
     let m : MachineState = record { tables = c.self.inside.tables.items; sessions = c.self.inside.sessions.items; next_session = c.self.inside.next_session } in
-    let was = subst (λ (x : MachineState). mode_of x c.args.session ≡ Some Empty) (sym c.self.view_is) c.in-Empty.ensures in
+    let was = subst (λ (x : MachineState). mode_of x c.args.session ≡ Some Empty) (sym c.self.view_is) c.in-Empty.ensures.mode in
     rw c.remove_session-in-Empty.ensures (valid_left m c.args.session Empty c.self.invariant was not_empty)
 
 pub index_mut-opening-requires : goal.index_mut-opening-requires
 index_mut-opening-requires c =
     let m : MachineState = record { tables = c.self.inside.tables.items; sessions = c.self.inside.sessions.items; next_session = c.self.inside.next_session } in
-    let was = subst (λ (x : MachineState). mode_of x c.args.session ≡ Some (Owner c.in-Owner.place c.in-Owner.number)) (sym c.self.view_is) c.in-Owner.ensures in
+    let was = subst (λ (x : MachineState). mode_of x c.args.session ≡ Some (Owner c.in-Owner.place c.in-Owner.number)) (sym c.self.view_is) c.in-Owner.ensures.mode in
     let inside = owned_inside m c.in-Owner.place c.in-Owner.number c.args.session (c.self.invariant.owns c.args.session c.in-Owner.place c.in-Owner.number was) in
     omega (arith, inside.0)
 
 pub invariant_of-self-in-Owner : goal.invariant_of-self-in-Owner
 invariant_of-self-in-Owner c =
     let m : MachineState = record { tables = c.self.inside.tables.items; sessions = c.self.inside.sessions.items; next_session = c.self.inside.next_session } in
-    let was = subst (λ (x : MachineState). mode_of x c.args.session ≡ Some (Owner c.in-Owner.place c.in-Owner.number)) (sym c.self.view_is) c.in-Owner.ensures in
+    let was = subst (λ (x : MachineState). mode_of x c.args.session ≡ Some (Owner c.in-Owner.place c.in-Owner.number)) (sym c.self.view_is) c.in-Owner.ensures.mode in
     let inside = owned_inside m c.in-Owner.place c.in-Owner.number c.args.session (c.self.invariant.owns c.args.session c.in-Owner.place c.in-Owner.number was) in
     let table = indexed c.self.inside.tables.items c.in-Owner.place c.index_mut-opening.result.now inside.0 c.index_mut-opening.ensures.value in
     rw (c.release.ensures, c.remove_session-in-Owner.ensures, table) (valid_given_back m c.args.session c.in-Owner.place c.in-Owner.number c.self.invariant was)
@@ -36,7 +36,7 @@ invariant_of-self-in-Owner c =
 pub release-requires : goal.release-requires
 release-requires c =
     let m : MachineState = record { tables = c.self.inside.tables.items; sessions = c.self.inside.sessions.items; next_session = c.self.inside.next_session } in
-    let was = subst (λ (x : MachineState). mode_of x c.args.session ≡ Some (Owner c.in-Owner.place c.in-Owner.number)) (sym c.self.view_is) c.in-Owner.ensures in
+    let was = subst (λ (x : MachineState). mode_of x c.args.session ≡ Some (Owner c.in-Owner.place c.in-Owner.number)) (sym c.self.view_is) c.in-Owner.ensures.mode in
     let owns = c.self.invariant.owns c.args.session c.in-Owner.place c.in-Owner.number was in
     let inside = owned_inside m c.in-Owner.place c.in-Owner.number c.args.session owns in
     let opening = indexed c.self.inside.tables.items c.in-Owner.place c.index_mut-opening.result.now inside.0 c.index_mut-opening.ensures.value in

@@ -25,11 +25,11 @@ invariant_of-self c =
     let table = indexed c.self.inside.tables.items c.in-Some.found.table c.index_mut-opening.result.now found.inside c.index_mut-opening.ensures.value in
     rw (c.own.ensures, c.set_mode.ensures, table) (valid_found m c.args.session c.args.list.now (picked_of c.in-Some.found) c.self.invariant was found)
 
-pub invariant_of-self-in-None : goal.invariant_of-self-in-None
-invariant_of-self-in-None c =
+pub invariant_of-self-then-over : goal.invariant_of-self-then-over
+invariant_of-self-then-over c =
     let m : MachineState = record { tables = c.self.inside.tables.items; sessions = c.self.inside.sessions.items; next_session = c.self.inside.next_session } in
     let was = subst (λ (x : MachineState). mode_of x c.args.session ≡ Some NonOwner) (sym c.self.view_is) c.requires.mode in
-    rw c.set_mode-in-None.ensures (valid_quiet m c.args.session NonOwner Empty c.self.invariant was not_owner not_empty)
+    rw c.set_mode-then-over.ensures (valid_quiet m c.args.session NonOwner Empty c.self.invariant was not_owner not_empty)
 
 pub own-requires : goal.own-requires
 own-requires c =

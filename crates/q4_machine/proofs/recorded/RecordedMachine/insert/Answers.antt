@@ -11,7 +11,7 @@ invariant_of-self c =
     let was = subst (λ (r : Recorded). IsOpenFor r.seen 0 c.args.session) (sym c.self.view_is) c.requires.is_open in
     let room = subst (λ (r : Recorded). HasRoom r 1) (sym c.self.view_is) c.requires.room in
     let for_it = subst (λ (r : Recorded). IsRowFor (definitions_of r.seen) c.args.table c.args.row) (sym c.self.view_is) c.requires.row in
-    let told : insert_reply c.insert.result ≡ Some c.in-Some.reply = sym c.desk_answer-answer.ensures ∙ sym c.reply_of.ensures ∙ c.in-Some.is in
+    let told : insert_reply c.insert.result ≡ Some c.in-Some.reply = sym c.desk_answer-answer.ensures.reply ∙ sym c.reply_of.ensures ∙ c.in-Some.is in
     let goes = insert_goes c.self.inside.machine c.insert.new.self c.self.inside.history.items c.args.session c.args.table c.args.row c.in-Some.reply c.self.invariant (c.insert.ensures.step c.in-Some.reply told) for_it was room.1 in
     rw (c.push_reserved.ensures.items, c.entry.ensures, c.requires.copy) goes.recorded
 
@@ -20,7 +20,7 @@ returns-in-Some-clause-is_open c =
     let was = subst (λ (r : Recorded). IsOpenFor r.seen 0 c.args.session) (sym c.self.view_is) c.requires.is_open in
     let room = subst (λ (r : Recorded). HasRoom r 1) (sym c.self.view_is) c.requires.room in
     let for_it = subst (λ (r : Recorded). IsRowFor (definitions_of r.seen) c.args.table c.args.row) (sym c.self.view_is) c.requires.row in
-    let told : insert_reply c.insert.result ≡ Some c.in-Some.reply = sym c.desk_answer-answer.ensures ∙ sym c.reply_of.ensures ∙ c.in-Some.is in
+    let told : insert_reply c.insert.result ≡ Some c.in-Some.reply = sym c.desk_answer-answer.ensures.reply ∙ sym c.reply_of.ensures ∙ c.in-Some.is in
     let goes = insert_goes c.self.inside.machine c.insert.new.self c.self.inside.history.items c.args.session c.args.table c.args.row c.in-Some.reply c.self.invariant (c.insert.ensures.step c.in-Some.reply told) for_it was room.1 in
     rw (c.push_reserved.ensures.items, c.entry.ensures, c.requires.copy) goes.is_open
 
@@ -29,6 +29,6 @@ returns-in-Some-clause-sound c =
     let was = subst (λ (r : Recorded). IsOpenFor r.seen 0 c.args.session) (sym c.self.view_is) c.requires.is_open in
     let room = subst (λ (r : Recorded). HasRoom r 1) (sym c.self.view_is) c.requires.room in
     let for_it = subst (λ (r : Recorded). IsRowFor (definitions_of r.seen) c.args.table c.args.row) (sym c.self.view_is) c.requires.row in
-    let told : insert_reply c.insert.result ≡ Some c.in-Some.reply = sym c.desk_answer-answer.ensures ∙ sym c.reply_of.ensures ∙ c.in-Some.is in
+    let told : insert_reply c.insert.result ≡ Some c.in-Some.reply = sym c.desk_answer-answer.ensures.reply ∙ sym c.reply_of.ensures ∙ c.in-Some.is in
     let goes = insert_goes c.self.inside.machine c.insert.new.self c.self.inside.history.items c.args.session c.args.table c.args.row c.in-Some.reply c.self.invariant (c.insert.ensures.step c.in-Some.reply told) for_it was room.1 in
     rw (c.push_reserved.ensures.items, c.entry.ensures, c.requires.copy) goes.recorded.sound

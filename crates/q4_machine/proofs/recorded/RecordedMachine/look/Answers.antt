@@ -1,10 +1,10 @@
-use Rattle.std.proofs.Common.{◌≡◌, Some, All, sym, subst}
+use Rattle.std.proofs.Common.{◌≡◌, ◌∙◌, Some, All, sym, subst}
 use Rattle.q4_machine.specs.declared.session.SessionMode.TheVariants.{NonOwner}
 use Rattle.q4_machine.specs.Machine.{mode_of}
 use Rattle.q4_machine.specs.Definitions.{IsListed}
 use Rattle.q4_machine.specs.History.{state_after, definitions_of, IsOpenFor}
 use Rattle.q4_machine.specs.Recorded.{Recorded, HasRoom}
-use Rattle.q4_machine.proofs.Recording.{look_goes, defined_push}
+use Rattle.q4_machine.proofs.Recording.{look_goes}
 use Rattle.q4_machine.proofs.recorded.RecordedMachine.look.Goals as goal
 
 pub invariant_of-self : goal.invariant_of-self
@@ -13,27 +13,26 @@ invariant_of-self c =
     let room = subst (λ (r : Recorded). HasRoom r 1) (sym c.self.view_is) c.requires.room in
     let mode = subst (λ (r : Recorded). mode_of (state_after r.seen) c.args.session ≡ Some NonOwner) (sym c.self.view_is) c.requires.mode in
     let listed = subst (λ (r : Recorded). All (IsListed (definitions_of r.seen)) c.args.list) (sym c.self.view_is) c.requires.listed in
-    let goes = look_goes c.self.inside.machine c.look-place.new.self c.self.inside.history.items c.args.session c.args.list _ c.self.invariant c.look-place.ensures mode listed was room.1 in
+    let steps = c.look-place.ensures.step (sym c.ends_wait.ensures ∙ c.if-ends_wait.true) in
+    let goes = look_goes c.self.inside.machine c.look-place.new.self c.self.inside.history.items c.args.session c.args.list _ c.self.invariant steps mode listed was room.1 in
     rw (c.push_reserved.ensures.items, c.entry.ensures, c.look_outcome.ensures) goes.recorded
 
-pub returns-clause-is_open : goal.returns-clause-is_open
-returns-clause-is_open c =
+pub returns-then-ends_wait-clause-is_open : goal.returns-then-ends_wait-clause-is_open
+returns-then-ends_wait-clause-is_open c =
     let was = subst (λ (r : Recorded). IsOpenFor r.seen 0 c.args.session) (sym c.self.view_is) c.requires.is_open in
     let room = subst (λ (r : Recorded). HasRoom r 1) (sym c.self.view_is) c.requires.room in
     let mode = subst (λ (r : Recorded). mode_of (state_after r.seen) c.args.session ≡ Some NonOwner) (sym c.self.view_is) c.requires.mode in
     let listed = subst (λ (r : Recorded). All (IsListed (definitions_of r.seen)) c.args.list) (sym c.self.view_is) c.requires.listed in
-    let goes = look_goes c.self.inside.machine c.look-place.new.self c.self.inside.history.items c.args.session c.args.list _ c.self.invariant c.look-place.ensures mode listed was room.1 in
+    let steps = c.look-place.ensures.step (sym c.ends_wait.ensures ∙ c.if-ends_wait.true) in
+    let goes = look_goes c.self.inside.machine c.look-place.new.self c.self.inside.history.items c.args.session c.args.list _ c.self.invariant steps mode listed was room.1 in
     rw (c.push_reserved.ensures.items, c.entry.ensures, c.look_outcome.ensures) goes.is_open
 
-pub returns-clause-sound : goal.returns-clause-sound
-returns-clause-sound c =
+pub returns-then-ends_wait-clause-sound : goal.returns-then-ends_wait-clause-sound
+returns-then-ends_wait-clause-sound c =
     let was = subst (λ (r : Recorded). IsOpenFor r.seen 0 c.args.session) (sym c.self.view_is) c.requires.is_open in
     let room = subst (λ (r : Recorded). HasRoom r 1) (sym c.self.view_is) c.requires.room in
     let mode = subst (λ (r : Recorded). mode_of (state_after r.seen) c.args.session ≡ Some NonOwner) (sym c.self.view_is) c.requires.mode in
     let listed = subst (λ (r : Recorded). All (IsListed (definitions_of r.seen)) c.args.list) (sym c.self.view_is) c.requires.listed in
-    let goes = look_goes c.self.inside.machine c.look-place.new.self c.self.inside.history.items c.args.session c.args.list _ c.self.invariant c.look-place.ensures mode listed was room.1 in
+    let steps = c.look-place.ensures.step (sym c.ends_wait.ensures ∙ c.if-ends_wait.true) in
+    let goes = look_goes c.self.inside.machine c.look-place.new.self c.self.inside.history.items c.args.session c.args.list _ c.self.invariant steps mode listed was room.1 in
     rw (c.push_reserved.ensures.items, c.entry.ensures, c.look_outcome.ensures) goes.recorded.sound
-
-pub returns-clause-defined : goal.returns-clause-defined
-returns-clause-defined c =
-    rw (c.push_reserved.ensures.items, c.entry.ensures, c.look_outcome.ensures, ← c.self.view_is) (defined_push c.self.inside.history.items _ c.self.invariant.sound.legal)
