@@ -9,6 +9,7 @@ mod machine;
 mod one_desk;
 mod recorded;
 mod session;
+mod shown;
 mod tables;
 
 pub use desk::{Desk, DeskFault, InsertFault, ModeFault};
@@ -18,6 +19,7 @@ pub use looks::{Listed, Looks};
 pub use machine::Machine;
 pub use one_desk::OneDesk;
 pub use session::{OpenSession, SessionMode};
+pub use shown::{NumberedRow, Rows};
 pub use tables::{Opening, Tables};
 
 #[cfg(test)]
