@@ -1,3 +1,4 @@
 pub mod Fields
 pub mod Commands
 pub mod Text
+pub mod Inner

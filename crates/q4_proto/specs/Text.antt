@@ -3,7 +3,7 @@ use Rattle.std.specs.Prelude.{◌≡◌, ◌==◌, ◌++◌, ◌∷◌, ℕ, Lis
 use Rattle.std.specs.Option.{IsSomeAnd}
 use Rattle.q4_cond.specs.declared.fault.CondFault.TheVariants as cond_fault
 use Rattle.q4_proto.specs.declared.command.CommandFault.{CommandFault}
-use Rattle.q4_proto.specs.declared.command.CommandFault.TheVariants.{NotText, Unknown, NotBuilt, Fields, Escape, NoTable, Cond, Count, Value, Long, Memory}
+use Rattle.q4_proto.specs.declared.command.CommandFault.TheVariants.{NotText, Unknown, NotBuilt, Fields, Number, Escape, Entries, NoTable, Cond, Count, Value, Long, Memory}
 use Rattle.q4_proto.specs.declared.reply.Code.{Code}
 use Rattle.q4_proto.specs.declared.reply.Outcome.{Outcome}
 use Rattle.q4_proto.specs.declared.reply.Outcome.TheVariants as outcome
@@ -22,6 +22,7 @@ refusal_words number =
     if number == 10 then entry (codes "not UTF-8") 0
     else if number == 11 then entry (codes "unknown command") 0
     else if number == 12 then entry (codes "wrong number of fields") 0
+    else if number == 13 then entry (codes "bad number") 1
     else if number == 14 then entry (codes "bad escape") 1
     else if number == 19 then entry (codes "not built") 0
     else if number == 20 then entry (codes "wrong number of values") 1
@@ -29,16 +30,19 @@ refusal_words number =
     else if number == 22 then entry (codes "bad value") 1
     else if number == 23 then entry (codes "row too long") 0
     else if number == 24 then entry (codes "bad condition") 2
+    else if number == 25 then entry (codes "too many entries") 0
     else if number == 27 then entry (codes "condition too deep") 2
     else if number == 28 then entry (codes "no column") 2
     else if number == 29 then entry (codes "wrong kinds") 2
     else if number == 30 then entry (codes "condition too long") 2
     else if number == 31 then entry (codes "not in owner mode") 0
+    else if number == 32 then entry (codes "no owned row") 0
     else if number == 41 then entry (codes "table full") 0
     else if number == 42 then entry (codes "table bytes") 1
     else if number == 44 then entry (codes "numbers used up") 0
     else if number == 60 then entry (codes "line too long") 0
     else if number == 61 then entry (codes "partial line") 0
+    else if number == 70 then entry (codes "history full") 1
     else if number == 90 then entry (codes "out of memory") 0
     else None
 
@@ -94,7 +98,9 @@ fault_code NotText = code 10
 fault_code Unknown = code 11
 fault_code NotBuilt = code 19
 fault_code Fields = code 12
+fault_code (Number field) = code_at 13 field
 fault_code (Escape field) = code_at 14 field
+fault_code Entries = code 25
 fault_code (NoTable field) = code_at 21 field
 fault_code (Cond entry cond_fault.Long) = code_within 30 entry 1024
 fault_code (Cond entry (cond_fault.At place)) = code_within 24 entry place

@@ -7,7 +7,9 @@ mod insert;
 mod keyword;
 mod laws;
 mod line_buffer;
+mod number;
 mod reply;
+mod select;
 mod wait;
 
 pub use command::{Command, CommandFault, read_command};

@@ -51,7 +51,7 @@ columns = [\"prio int\"]
     }
 }
 
-const REFUSED: [(&[u8], CommandFault, &[u8]); 36] = [
+const REFUSED: [(&[u8], CommandFault, &[u8]); 73] = [
     (b"end\xff", CommandFault::NotText, b"err\t10\tnot UTF-8\n"),
     (b"\xc3", CommandFault::NotText, b"err\t10\tnot UTF-8\n"),
     (b"", CommandFault::Unknown, b"err\t11\tunknown command\n"),
@@ -71,36 +71,44 @@ const REFUSED: [(&[u8], CommandFault, &[u8]); 36] = [
         CommandFault::Unknown,
         b"err\t11\tunknown command\n",
     ),
-    (b"rowid", CommandFault::NotBuilt, b"err\t19\tnot built\n"),
-    (
-        b"abort\tx\\q",
-        CommandFault::NotBuilt,
-        b"err\t19\tnot built\n",
-    ),
-    (
-        b"select\tjobs\t1",
-        CommandFault::NotBuilt,
-        b"err\t19\tnot built\n",
-    ),
     (
         b"srcid\t1\ta\t1",
         CommandFault::NotBuilt,
         b"err\t19\tnot built\n",
     ),
+    (b"srcid", CommandFault::NotBuilt, b"err\t19\tnot built\n"),
     (
         b"compact\tjobs",
         CommandFault::NotBuilt,
         b"err\t19\tnot built\n",
     ),
-    (b"wait", CommandFault::NotBuilt, b"err\t19\tnot built\n"),
     (
-        b"wait\tjobs\tjobs",
+        b"compact\tx\\q",
         CommandFault::NotBuilt,
         b"err\t19\tnot built\n",
     ),
-    (b"wait\t=0", CommandFault::NotBuilt, b"err\t19\tnot built\n"),
     (
         b"insert",
+        CommandFault::Fields,
+        b"err\t12\twrong number of fields\n",
+    ),
+    (
+        b"wait",
+        CommandFault::Fields,
+        b"err\t12\twrong number of fields\n",
+    ),
+    (
+        b"wait\t=5",
+        CommandFault::Fields,
+        b"err\t12\twrong number of fields\n",
+    ),
+    (
+        b"wait\t=x",
+        CommandFault::Fields,
+        b"err\t12\twrong number of fields\n",
+    ),
+    (
+        b"rowid\t",
         CommandFault::Fields,
         b"err\t12\twrong number of fields\n",
     ),
@@ -110,9 +118,109 @@ const REFUSED: [(&[u8], CommandFault, &[u8]); 36] = [
         b"err\t12\twrong number of fields\n",
     ),
     (
+        b"abort\tx\\q",
+        CommandFault::Fields,
+        b"err\t12\twrong number of fields\n",
+    ),
+    (
         b"quit\tx\\q",
         CommandFault::Fields,
         b"err\t12\twrong number of fields\n",
+    ),
+    (
+        b"select",
+        CommandFault::Fields,
+        b"err\t12\twrong number of fields\n",
+    ),
+    (
+        b"select\tjobs",
+        CommandFault::Fields,
+        b"err\t12\twrong number of fields\n",
+    ),
+    (
+        b"select\tx\\q\t1001\t",
+        CommandFault::Fields,
+        b"err\t12\twrong number of fields\n",
+    ),
+    (
+        b"wait\tjobs\t=3601",
+        CommandFault::Number(2),
+        b"err\t13\tbad number\t2\n",
+    ),
+    (
+        b"wait\tjobs\t=00",
+        CommandFault::Number(2),
+        b"err\t13\tbad number\t2\n",
+    ),
+    (
+        b"wait\tjobs\t=",
+        CommandFault::Number(2),
+        b"err\t13\tbad number\t2\n",
+    ),
+    (
+        b"wait\tjobs\t=x",
+        CommandFault::Number(2),
+        b"err\t13\tbad number\t2\n",
+    ),
+    (
+        b"wait\tjobs\t=-1",
+        CommandFault::Number(2),
+        b"err\t13\tbad number\t2\n",
+    ),
+    (
+        b"wait\tjobs\t=60s",
+        CommandFault::Number(2),
+        b"err\t13\tbad number\t2\n",
+    ),
+    (
+        b"wait\tjobs\t=4294967296",
+        CommandFault::Number(2),
+        b"err\t13\tbad number\t2\n",
+    ),
+    (
+        b"wait\tjobs\t=18446744073709551616",
+        CommandFault::Number(2),
+        b"err\t13\tbad number\t2\n",
+    ),
+    (
+        b"wait\tj\\q\tmail\t=3601",
+        CommandFault::Number(3),
+        b"err\t13\tbad number\t3\n",
+    ),
+    (
+        b"select\tjobs\t1001",
+        CommandFault::Number(2),
+        b"err\t13\tbad number\t2\n",
+    ),
+    (
+        b"select\tjobs\t01",
+        CommandFault::Number(2),
+        b"err\t13\tbad number\t2\n",
+    ),
+    (
+        b"select\tjobs\t",
+        CommandFault::Number(2),
+        b"err\t13\tbad number\t2\n",
+    ),
+    (
+        b"select\tjobs\tx",
+        CommandFault::Number(2),
+        b"err\t13\tbad number\t2\n",
+    ),
+    (
+        b"select\tjobs\t-1",
+        CommandFault::Number(2),
+        b"err\t13\tbad number\t2\n",
+    ),
+    (
+        b"select\tjobs\t\\q",
+        CommandFault::Number(2),
+        b"err\t13\tbad number\t2\n",
+    ),
+    (
+        b"select\tj\\q\t1001",
+        CommandFault::Number(2),
+        b"err\t13\tbad number\t2\n",
     ),
     (
         b"insert\tjobs\t1\ta\\q",
@@ -135,6 +243,36 @@ const REFUSED: [(&[u8], CommandFault, &[u8]); 36] = [
         b"err\t14\tbad escape\t1\n",
     ),
     (
+        b"wait\tmail\tj\\q\t=0",
+        CommandFault::Escape(2),
+        b"err\t14\tbad escape\t2\n",
+    ),
+    (
+        b"select\tj\\q\t1",
+        CommandFault::Escape(1),
+        b"err\t14\tbad escape\t1\n",
+    ),
+    (
+        b"wait\thot\thot\thot\thot\thot\thot\thot\thot\thot\thot\thot\thot\thot\thot\thot\thot\t\\",
+        CommandFault::Escape(17),
+        b"err\t14\tbad escape\t17\n",
+    ),
+    (
+        b"wait\thot\thot\thot\thot\thot\thot\thot\thot\thot\thot\thot\thot\thot\thot\thot\thot\thot",
+        CommandFault::Entries,
+        b"err\t25\ttoo many entries\n",
+    ),
+    (
+        b"wait\thot\thot\thot\thot\thot\thot\thot\thot\thot\thot\thot\thot\thot\thot\thot\thot\thot\t=0",
+        CommandFault::Entries,
+        b"err\t25\ttoo many entries\n",
+    ),
+    (
+        b"wait\tx\tx\tx\tx\tx\tx\tx\tx\tx\tx\tx\tx\tx\tx\tx\tx\tx",
+        CommandFault::Entries,
+        b"err\t25\ttoo many entries\n",
+    ),
+    (
         b"insert\tmail\t1",
         CommandFault::NoTable(1),
         b"err\t21\tno table\t1\n",
@@ -150,24 +288,49 @@ const REFUSED: [(&[u8], CommandFault, &[u8]); 36] = [
         b"err\t21\tno table\t1\n",
     ),
     (
+        b"wait\tjobs:prio<\tmail",
+        CommandFault::NoTable(2),
+        b"err\t21\tno table\t2\n",
+    ),
+    (
+        b"wait\t=5\tjobs",
+        CommandFault::NoTable(1),
+        b"err\t21\tno table\t1\n",
+    ),
+    (
+        b"wait\t=5\t=6",
+        CommandFault::NoTable(1),
+        b"err\t21\tno table\t1\n",
+    ),
+    (
+        b"wait\thot\t\t=6",
+        CommandFault::NoTable(2),
+        b"err\t21\tno table\t2\n",
+    ),
+    (
+        b"wait\tj\\tobs:",
+        CommandFault::NoTable(1),
+        b"err\t21\tno table\t1\n",
+    ),
+    (
+        b"select\tmail\t1",
+        CommandFault::NoTable(1),
+        b"err\t21\tno table\t1\n",
+    ),
+    (
+        b"select\t\t1000",
+        CommandFault::NoTable(1),
+        b"err\t21\tno table\t1\n",
+    ),
+    (
         b"wait\tjobs:prio<2<3",
         CommandFault::Cond(1, CondFault::At(6)),
         b"err\t24\tbad condition\t1\t6\n",
     ),
     (
-        b"wait\tjobs:size>1",
-        CommandFault::Cond(1, CondFault::NoColumn(0)),
-        b"err\t28\tno column\t1\t0\n",
-    ),
-    (
-        b"wait\tjobs:prio=body",
-        CommandFault::Cond(1, CondFault::Kinds(5)),
-        b"err\t29\twrong kinds\t1\t5\n",
-    ),
-    (
-        b"wait\thot:body='x'",
-        CommandFault::Cond(1, CondFault::NoColumn(0)),
-        b"err\t28\tno column\t1\t0\n",
+        b"wait\thot\tjobs:prio<\thot:body='x'\t=9",
+        CommandFault::Cond(2, CondFault::At(5)),
+        b"err\t24\tbad condition\t2\t5\n",
     ),
     (
         b"wait\tjobs:((((((((((((((((((((((((((((((((1",
@@ -178,6 +341,36 @@ const REFUSED: [(&[u8], CommandFault, &[u8]); 36] = [
         b"wait\tjobs:(((((((((((((((((((((((((((((((((1",
         CommandFault::Cond(1, CondFault::Deep(32)),
         b"err\t27\tcondition too deep\t1\t32\n",
+    ),
+    (
+        b"wait\thot\tjobs:(((((((((((((((((((((((((((((((((1",
+        CommandFault::Cond(2, CondFault::Deep(32)),
+        b"err\t27\tcondition too deep\t2\t32\n",
+    ),
+    (
+        b"wait\tjobs:size>1",
+        CommandFault::Cond(1, CondFault::NoColumn(0)),
+        b"err\t28\tno column\t1\t0\n",
+    ),
+    (
+        b"wait\thot:body='x'",
+        CommandFault::Cond(1, CondFault::NoColumn(0)),
+        b"err\t28\tno column\t1\t0\n",
+    ),
+    (
+        b"wait\tjobs\thot:prio=1 or size>1",
+        CommandFault::Cond(2, CondFault::NoColumn(10)),
+        b"err\t28\tno column\t2\t10\n",
+    ),
+    (
+        b"wait\tjobs:prio=body",
+        CommandFault::Cond(1, CondFault::Kinds(5)),
+        b"err\t29\twrong kinds\t1\t5\n",
+    ),
+    (
+        b"wait\tjobs:prio=1\tjobs:prio=body\t=0",
+        CommandFault::Cond(2, CondFault::Kinds(5)),
+        b"err\t29\twrong kinds\t2\t5\n",
     ),
     (
         b"insert\tjobs\t1",
@@ -228,12 +421,15 @@ fn refused_lines(rt: HostRuntime) {
 }
 
 // What an accepted line is read as.
-#[derive(Clone, Copy, Debug, PartialEq, Eq)]
+#[derive(Clone, Copy)]
 enum Read {
     Job(i64, &'static str),
     Hot(i64),
-    Wait(u32),
+    Wait(&'static [u32], u32),
+    RowId,
     End,
+    Abort,
+    Select(u32, u32),
     Quit,
 }
 
@@ -253,25 +449,34 @@ fn is_hot(row: &Row, priority: i64) -> bool {
     }
 }
 
-fn is_wait(list: &Looks, table: u32) -> bool {
-    match list.as_slice() {
-        [listed] => listed.table == table,
-        _ => false,
-    }
+fn are_listed(list: &Looks, tables: &[u32]) -> bool {
+    let listed = list.as_slice();
+    listed.len() == tables.len()
+        && listed
+            .iter()
+            .zip(tables)
+            .all(|(entry, table)| entry.table == *table)
 }
 
 fn is_read_as(command: &Command, wanted: Read) -> bool {
     match (command, wanted) {
         (Command::Insert(0, row), Read::Job(priority, body)) => is_job(row, priority, body),
         (Command::Insert(1, row), Read::Hot(priority)) => is_hot(row, priority),
-        (Command::Wait(list), Read::Wait(table)) => is_wait(list, table),
+        (Command::Wait(list, seconds), Read::Wait(tables, most)) => {
+            are_listed(list, tables) && *seconds == most
+        }
+        (Command::Select(table, most), Read::Select(place, limit)) => {
+            *table == place && *most == limit
+        }
+        (Command::RowId, Read::RowId) => true,
         (Command::End, Read::End) => true,
+        (Command::Abort, Read::Abort) => true,
         (Command::Quit, Read::Quit) => true,
         _ => false,
     }
 }
 
-const TAKEN: [(&[u8], Read); 13] = [
+const TAKEN: [(&[u8], Read); 21] = [
     (b"insert\tjobs\t7\ta", Read::Job(7, "a")),
     (b"insert\tjobs\t0\t", Read::Job(0, "")),
     (
@@ -284,13 +489,30 @@ const TAKEN: [(&[u8], Read); 13] = [
     ),
     (b"insert\tjobs\t1\t\\t\\n\\r\\\\", Read::Job(1, "\t\n\r\\")),
     (b"insert\thot\t-1", Read::Hot(-1)),
-    (b"wait\tjobs", Read::Wait(0)),
-    (b"wait\thot", Read::Wait(1)),
-    (b"wait\thot:", Read::Wait(1)),
-    (b"wait\tjobs:body='a:b' or prio>=5", Read::Wait(0)),
-    (b"wait\tjobs:body='\\t'", Read::Wait(0)),
+    (b"wait\tjobs", Read::Wait(&[0], 60)),
+    (b"wait\thot:", Read::Wait(&[1], 60)),
+    (b"wait\tjobs:body='a:b' or prio>=5", Read::Wait(&[0], 60)),
+    (b"wait\tjobs:body='\\t'", Read::Wait(&[0], 60)),
+    (
+        b"wait\thot\tjobs:prio>3\tjobs\t=0",
+        Read::Wait(&[1, 0, 0], 0),
+    ),
+    (b"wait\tjobs\t=3600", Read::Wait(&[0], 3_600)),
+    (b"wait\tjobs\thot\t=1", Read::Wait(&[0, 1], 1)),
+    (
+        b"wait\thot\thot\thot\thot\thot\thot\thot\thot\thot\thot\thot\thot\thot\thot\thot\thot",
+        Read::Wait(&[1; 16], 60),
+    ),
+    (
+        b"wait\thot\thot\thot\thot\thot\thot\thot\thot\thot\thot\thot\thot\thot\thot\thot\tjobs\t=59",
+        Read::Wait(&[1, 1, 1, 1, 1, 1, 1, 1, 1, 1, 1, 1, 1, 1, 1, 0], 59),
+    ),
+    (b"rowid", Read::RowId),
     (b"end", Read::End),
+    (b"abort", Read::Abort),
     (b"quit", Read::Quit),
+    (b"select\tjobs\t0", Read::Select(0, 0)),
+    (b"select\thot\t1000", Read::Select(1, 1_000)),
 ];
 
 #[test]
