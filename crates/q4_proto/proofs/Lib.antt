@@ -7,3 +7,4 @@ pub mod Entries
 pub mod Waiting
 pub mod Selecting
 pub mod Apart
+pub mod Writing

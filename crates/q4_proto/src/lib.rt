@@ -8,7 +8,9 @@ mod keyword;
 mod laws;
 mod line_buffer;
 mod number;
+mod pieces;
 mod reply;
+mod rows;
 mod select;
 mod wait;
 
