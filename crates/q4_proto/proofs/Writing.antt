@@ -55,7 +55,7 @@ put_then a b c one two first second = by_failures a.failed b.failed c.failed fir
 pub waits_then : (before mid after : Writing) (front : List ℕ) → before.failed ≡ false → mid.failed ≡ false → mid.written ≡ before.written → mid.faults ≡ before.faults → mid.waiting ≡ before.waiting ++ front → Puts mid after [] → Puts before after front
 waits_then before mid after front ran runs written faults waits puts =
     let first : Puts before mid front = subst (λ t. PutsBy t mid.failed before mid front) (sym ran) (subst (λ t. PutsBy false t before mid front) (sym runs)
-        (record { sent = []; whole = sym waits; took = subst (λ w. Took before.written w []) (sym written) (took_nothing before.written); stayed = faults })) in
+    (record { sent = []; whole = sym waits; took = subst (λ w. Took before.written w []) (sym written) (took_nothing before.written); stayed = faults })) in
     subst (Puts before after) (append-nil front) (put_then before mid after front [] first puts)
 
 -- one element more

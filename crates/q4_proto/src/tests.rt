@@ -1,19 +1,21 @@
-ghost use Rattle.q4_proto.specs.declared.reply.Outcome.TheVariants as outcome;
+ghost use Rattle.std.specs.Prelude.{◌≡◌, ◌≢◌, ◌++◌, ◌∷◌, []};
+ghost use Rattle.q4_proto.specs.Told as Told;
+ghost use Rattle.q4_proto.specs.Told.{told};
 ghost use Rattle.q4_proto.specs.Text.{IsCode, IsOutcome};
 
 use super::*;
 use q4_cond::CondFault;
 use q4_def::{Defs, read_defs};
 use q4_flow::{MemorySink, WriteFailed};
-use q4_machine::Looks;
-use q4_value::{Row, Value};
+use q4_machine::{Looks, NumberedRow, Rows};
+use q4_value::{Row, Value, Words};
 use std::alloc::Global;
 use std::process::Abort;
 use std::test::*;
 
 // A reply is one write: the second write of the sink fails, and nothing of it is there.
 fn check_reply(rt: &impl Abort, alloc: Global, outcome: &Outcome, wanted: &[u8])
-    requires { IsOutcome outcome.now }
+    requires { IsOutcome (told outcome.now) }
 {
     let mut sink = MemorySink::new(alloc, &[2]).expect(rt, "memory");
     assert_eq!(rt; put_reply(outcome, &mut sink), Ok(()));
@@ -33,6 +35,103 @@ fn replies(rt: HostRuntime) {
         &Outcome::Number(u64::MAX),
         b"ok\t18446744073709551615\n",
     );
+    let none_owned = Code {
+        number: 32,
+        first: None,
+        second: None,
+    };
+    check_refusal(&rt, rt.alloc(), none_owned, b"err\t32\tno owned row\n");
+    let worn = Code {
+        number: 70,
+        first: Some(1_048_576),
+        second: None,
+    };
+    check_refusal(&rt, rt.alloc(), worn, b"err\t70\thistory full\t1048576\n");
+}
+
+// Puts the value behind those of the row.
+fn add_value(rt: &impl Abort, row: &mut Row, value: Value)
+    ensures { row.new ≡ row.old ++ value ∷ [] }
+{
+    match row.push(value) {
+        Ok(()) => {}
+        Err(_) => panic!(rt; "memory"),
+    }
+}
+
+fn add_words(rt: &impl Abort, alloc: Global, row: &mut Row, text: &str)
+    ensures { row.new ≢ [] }
+{
+    match Words::new(alloc, text) {
+        Ok(words) => add_value(rt, row, Value::Word(words)),
+        Err(_) => panic!(rt; "memory"),
+    }
+}
+
+fn add_row(rt: &impl Abort, rows: &mut Rows, number: u64, row: Row)
+    ensures { rows.new ≡ rows.old ++ record { number = number; row = row } ∷ [] }
+{
+    match rows.push(NumberedRow { number, row }) {
+        Ok(()) => {}
+        Err(_) => panic!(rt; "memory"),
+    }
+}
+
+#[test]
+fn shown_rows(rt: HostRuntime) {
+    let mut rows = Rows::new(rt.alloc());
+    check_reply(&rt, rt.alloc(), &Outcome::Rows(&rows), b"rows\t0\n");
+    let mut first = Row::new(rt.alloc());
+    add_value(&rt, &mut first, Value::Int(-7));
+    add_words(&rt, rt.alloc(), &mut first, "a\tb\\c\nd\r");
+    add_row(&rt, &mut rows, 1, first);
+    let mut second = Row::new(rt.alloc());
+    add_words(&rt, rt.alloc(), &mut second, "");
+    add_row(&rt, &mut rows, 4_611_686_018_427_387_903, second);
+    check_reply(
+        &rt,
+        rt.alloc(),
+        &Outcome::Rows(&rows),
+        b"rows\t2\nrow\t1\t-7\ta\\tb\\\\c\\nd\\r\nrow\t4611686018427387903\t\n",
+    );
+}
+
+// The rows of one text of this size. Their reply has 14 bytes more.
+fn long_row(rt: &impl Abort, alloc: Global, size: usize) -> Rows
+    ensures { IsOutcome (Told.Rows result) }
+{
+    let mut text = String::new(alloc);
+    for _ in 0..size {
+        text.push('x').expect(rt, "memory");
+    }
+    let mut row = Row::new(alloc);
+    add_words(rt, alloc, &mut row, text.as_str());
+    let mut rows = Rows::new(alloc);
+    add_row(rt, &mut rows, 5, row);
+    rows
+}
+
+// The size of the text, the write that fails, and what was taken before it.
+const PIECES: [(usize, u64, usize); 8] = [
+    (4_082, 1, 0),
+    (4_082, 2, 4_096),
+    (4_083, 2, 4_096),
+    (4_083, 3, 4_097),
+    (10_000, 1, 0),
+    (10_000, 2, 4_096),
+    (10_000, 3, 8_192),
+    (10_000, 4, 10_014),
+];
+
+#[test]
+fn long_replies(rt: HostRuntime) {
+    for (size, failing, taken) in &PIECES {
+        let rows = long_row(&rt, rt.alloc(), *size);
+        let mut sink = MemorySink::new(rt.alloc(), &[*failing]).expect(&rt, "memory");
+        let put = put_reply(&Outcome::Rows(&rows), &mut sink);
+        assert_eq!(rt; sink.bytes().len(), *taken);
+        assert_eq!(rt; put.is_ok(), taken.saturating_sub(14) == *size);
+    }
 }
 
 // The definitions that the lines are read for.

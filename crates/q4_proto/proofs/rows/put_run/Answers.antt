@@ -19,11 +19,12 @@ loop-at-preserved g c =
     let first : Writing = writing (g.W.Sink.written c.args.sink.now) (g.W.Sink.faults c.args.sink.now) c.args.reply.now in
     let before : Writing = writing (g.W.Sink.written c.loop-at.sink) (g.W.Sink.faults c.loop-at.sink) c.loop-at.reply in
     let run : Writing = writing (g.W.Sink.written c.put.new.sink) (g.W.Sink.faults c.put.new.sink) c.put.new.self in
-    let after : Writing = writing (g.W.Sink.written c.put-in-Some.new.sink) (g.W.Sink.faults c.put-in-Some.new.sink) c.put-in-Some.new.self in
-    ((inv.0 ++ take at rest) ++ escape,
+    let after : Writing = writing (g.W.Sink.written c.put-in-Some.new.sink) (g.W.Sink.faults c.put-in-Some.new.sink) c.put-in-Some.new.self in (
+      (inv.0 ++ take at rest) ++ escape,
       escaping_byte c.args.run.now rest [] inv.0 (inv.0 ++ take at rest) ((inv.0 ++ take at rest) ++ escape) at 92 inv.1 found.0.high (eqb-true (get_or rest at 0) 92 found.1) (ap (λ x. inv.0 ++ x) (sym same)) (ap (λ x. (inv.0 ++ take at rest) ++ x) c.escape_of.ensures),
       put_then first run after (inv.0 ++ take at rest) escape (put_then first before run inv.0 (take at rest) inv.2 c.put.ensures) c.put-in-Some.ensures,
-      subst (All IsFieldByte) (sym (take_rest rest (at + 1))) (All-drop IsFieldByte (at + 1) rest inv.3))
+      subst (All IsFieldByte) (sym (take_rest rest (at + 1))) (All-drop IsFieldByte (at + 1) rest inv.3),
+    )
 
 pub returns : goal.returns
 returns g c =
