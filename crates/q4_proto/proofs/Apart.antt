@@ -213,7 +213,7 @@ of_word Quit = refl
 some_is : (k l : Keyword) → Some k ≡ Some l → k ≡ l
 some_is k l is = ap (λ o. unwrap_or o k) is
 
-word_once : (k l : Keyword) → word_of k ≡ word_of l → k ≡ l
+pub word_once : (k l : Keyword) → word_of k ≡ word_of l → k ≡ l
 word_once k l is = some_is k l (sym (of_word k) ∙ ap (λ w. of_sign (sign_of w)) is ∙ of_word l)
 
 lines_apart : (defs : List TableDef) (line : List ℕ) (command : Command) (keyword : Keyword) (args : List (List ℕ)) (f : CommandFault) → AreDefs defs → ReadsLine defs line (Ok command) → Begins line keyword args → IsRefused defs keyword args f → ⊥

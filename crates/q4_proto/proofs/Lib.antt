@@ -8,3 +8,5 @@ pub mod Waiting
 pub mod Selecting
 pub mod Apart
 pub mod Writing
+pub mod Once
+pub mod OneFault
