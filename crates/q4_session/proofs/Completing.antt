@@ -1,6 +1,5 @@
 -- A line that spells a command is answered by its entry, or memory was wanted.
-use Rattle.std.proofs.Common.{◌≡◌, ◌∙◌, [], List, ℕ, Option, None, Some, Result, Ok, Err, inl, inr, refl, sym, ap, subst, append-nil}
-use Rattle.q4_def.specs.declared.table_def.TableDef.{TableDef}
+use Rattle.std.proofs.Common.{◌≡◌, [], List, ℕ, Option, None, Some, Result, Ok, Err, inl, inr, refl, sym, ap, subst, append-nil}
 use Rattle.q4_def.specs.Tables.{AreDefs}
 use Rattle.q4_machine.specs.declared.entry.Entry.{Entry}
 use Rattle.q4_machine.specs.declared.entry.Call.{Call}
@@ -13,7 +12,7 @@ use Rattle.q4_proto.specs.Commands.{Reads}
 use Rattle.q4_proto.proofs.Apart.{spelled_not_refused}
 use Rattle.q4_proto.proofs.Once.{command_once}
 use Rattle.q4_session.specs.declared.answering.Answered.{Answered}
-use Rattle.q4_session.specs.Exchanges.{Client, Exchange, Calls, Says, Obeys, Does, IsNowhereWorn, Completes, IsExchange, call_of, answer_outcome, fault_outcome}
+use Rattle.q4_session.specs.Exchanges.{Client, Exchange, Says, Obeys, Does, IsNowhereWorn, Completes, call_of, answer_outcome, fault_outcome}
 use Rattle.q4_session.specs.Answering.{Answering, Obeying, Writes}
 
 part_completes : (client : Client) (before : List Entry) (exchange : Exchange) (call : Call) (answer : Answer) → IsPart client.limit before exchange.grown client.caller client.session call answer

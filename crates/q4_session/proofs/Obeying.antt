@@ -1,5 +1,5 @@
 -- A command that was done, and a line that was answered.
-use Rattle.std.proofs.Common.{◌≡◌, ◌++◌, [], List, ℕ, Option, Some, refl, sym, subst, append-nil}
+use Rattle.std.proofs.Common.{◌≡◌, [], List, ℕ, Option, Some, refl, sym, subst, append-nil}
 use Rattle.q4_machine.specs.declared.entry.Entry.{Entry}
 use Rattle.q4_machine.specs.declared.entry.Call.{Call}
 use Rattle.q4_machine.specs.Parts.{Answer, IsPart, Grows}
@@ -8,7 +8,7 @@ use Rattle.q4_proto.specs.declared.command.Command.{Command}
 use Rattle.q4_proto.specs.declared.command.Command.TheVariants.{Quit}
 use Rattle.q4_proto.specs.Told.{Told, Bye}
 use Rattle.q4_session.specs.declared.answering.Answered.{Answered}
-use Rattle.q4_session.specs.Exchanges.{Client, Exchange, Obeys, Uses, call_of, answer_outcome}
+use Rattle.q4_session.specs.Exchanges.{Client, Obeys, Uses, call_of, answer_outcome}
 use Rattle.q4_session.specs.Answering.{Obeying, Writes}
 
 -- a call that the desk did, and what was written of its answer

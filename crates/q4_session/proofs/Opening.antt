@@ -1,16 +1,12 @@
 -- A session whose opening was refused, and one that was opened.
-use Rattle.std.proofs.Common.{◌≡◌, ◌++◌, ◌∙◌, List, ℕ, Err, refl, subst}
-use Rattle.q4_def.specs.declared.table_def.TableDef.{TableDef}
-use Rattle.q4_flow.specs.Flow.{Took, TookFront}
-use Rattle.q4_machine.specs.declared.entry.Entry.{Entry}
+use Rattle.std.proofs.Common.{◌≡◌, ◌∙◌, List, ℕ, Err, refl, subst}
 use Rattle.q4_machine.specs.declared.desk.DeskFault.{DeskFault}
 use Rattle.q4_machine.specs.declared.desk.DeskFault.TheVariants as fault
-use Rattle.q4_machine.specs.Parts.{Grows, IsOpened, IsClosed, fault_answer}
+use Rattle.q4_machine.specs.Parts.{Grows, IsOpened, fault_answer}
 use Rattle.q4_proto.specs.Text.{text}
 use Rattle.q4_session.specs.declared.sessions.SessionEnd.{SessionEnd}
-use Rattle.q4_session.specs.declared.sessions.SessionEnd.TheVariants as end
-use Rattle.q4_session.specs.Exchanges.{Client, answer_outcome}
-use Rattle.q4_session.specs.Sessions.{Around, Conversation, OpenedSession, RefusedSession, refused_end, refused_words}
+use Rattle.q4_session.specs.Exchanges.{answer_outcome}
+use Rattle.q4_session.specs.Sessions.{Around, RefusedSession, refused_end, refused_words}
 use Rattle.q4_session.specs.Answering.{LastReply}
 
 -- the words of a refused opening are the text of its outcome

@@ -1,5 +1,5 @@
 -- What a select shows is few rows, each with a value.
-use Rattle.std.proofs.Common.{◌≡◌, ◌≢◌, ◌==◌, ◌++◌, ◌∷◌, ◌∙◌, ◌≤◌, ◌<◌, [], List, ℕ, Option, None, Some, IsSome, true, false, cond, All, length, map, take, filter, min, is_none, refl, sym, ap, subst, inl, inr, arith, append_assoc}
+use Rattle.std.proofs.Common.{◌≡◌, ◌≢◌, ◌==◌, ◌++◌, ◌∷◌, ◌∙◌, ◌≤◌, [], List, ℕ, Option, None, Some, IsSome, true, false, cond, All, length, map, take, filter, is_none, refl, sym, ap, subst, inl, inr, arith, append_assoc}
 use Rattle.std.proofs.lemmas.List.{length-take, length-map}
 use Rattle.std.proofs.lemmas.Bool.{cases_lt}
 use Rattle.std.proofs.Math.ListN.{get_or-eq_default}
@@ -10,7 +10,6 @@ use Rattle.q4_value.specs.Row.{Fits, kind_of}
 use Rattle.q4_table.specs.declared.rows.StoredRow.{StoredRow}
 use Rattle.q4_table.specs.Valid.{IsColumns, IsValidTable}
 use Rattle.q4_machine.specs.declared.entry.Entry.{Entry}
-use Rattle.q4_machine.specs.declared.entry.Call.{Call}
 use Rattle.q4_machine.specs.declared.entry.Call.TheVariants as call
 use Rattle.q4_machine.specs.declared.entry.Reply.TheVariants.{Shown}
 use Rattle.q4_machine.specs.declared.session.SessionMode.{SessionMode}
@@ -18,7 +17,7 @@ use Rattle.q4_machine.specs.declared.session.SessionMode.TheVariants.{NonOwner, 
 use Rattle.q4_machine.specs.declared.shown.NumberedRow.{NumberedRow}
 use Rattle.q4_machine.specs.declared.tables.Opening.{Opening}
 use Rattle.q4_machine.specs.Machine.{MachineState, no_table, table_at, mode_of}
-use Rattle.q4_machine.specs.Step.{step, visible, numbered, shown}
+use Rattle.q4_machine.specs.Step.{visible, numbered, shown}
 use Rattle.q4_machine.specs.Valid.{AreValidTables, IsValid}
 use Rattle.q4_machine.specs.History.{state_after, IsLegal, IsNext, IsOpening}
 use Rattle.q4_machine.proofs.Reached.{valid_reached}

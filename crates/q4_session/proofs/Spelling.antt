@@ -1,14 +1,11 @@
 -- What a command that a line spells is for.
-use Rattle.std.proofs.Common.{◌≡◌, ◌<◌, ◌∷◌, [], List, ℕ, Ok, Err, Some, All, length, refl, sym, subst, slice_get}
+use Rattle.std.proofs.Common.{◌∷◌, [], List, ℕ, Ok, All}
 use Rattle.std.proofs.lemmas.List.Elements.{All-nil, All-cons}
 use Rattle.q4_def.specs.declared.table_def.TableDef.{TableDef}
-use Rattle.q4_def.specs.Tables.{AreDefs, names_of}
 use Rattle.q4_machine.specs.declared.looks.Listed.{Listed}
 use Rattle.q4_machine.specs.Definitions.{IsListed}
 use Rattle.q4_proto.specs.declared.command.Command.{Command}
 use Rattle.q4_proto.specs.declared.command.Command.TheVariants as spelled
-use Rattle.q4_proto.specs.declared.command.CommandFault.{CommandFault}
-use Rattle.q4_proto.specs.declared.command.CommandFault.TheVariants.{Memory}
 use Rattle.q4_proto.specs.declared.keyword.Keyword.{Keyword}
 use Rattle.q4_proto.specs.declared.keyword.Keyword.TheVariants as word
 use Rattle.q4_proto.specs.Commands.{Reads, Spells, SpellsEntry, SpellEntries}

@@ -1,20 +1,18 @@
 -- What was answered stands settled, whatever comes behind it.
-use Rattle.std.proofs.Common.{◌≡◌, ◌++◌, ◌∷◌, ◌∙◌, ◌≤◌, ◌<◌, ◌+◌, [], List, ℕ, Bool, true, Option, None, Some, Result, Ok, Err, length, refl, sym, ap, subst, arith, append_assoc, inl, inr}
+use Rattle.std.proofs.Common.{◌≡◌, ◌++◌, ◌∷◌, ◌∙◌, ◌<◌, [], List, ℕ, Option, None, Some, Result, Ok, Err, length, refl, sym, ap, subst, arith, append_assoc}
 use Rattle.std.specs.List.{Any}
 use Rattle.std.proofs.Math.ListN.{get_or-append}
 use Rattle.std.proofs.lemmas.List.{length-append}
 use Rattle.q4_machine.specs.declared.entry.Entry.{Entry}
 use Rattle.q4_machine.specs.declared.entry.Call.{Call}
 use Rattle.q4_machine.specs.declared.entry.Call.TheVariants.{Sync}
-use Rattle.q4_machine.specs.declared.entry.Reply.{Reply}
-use Rattle.q4_machine.specs.History.{state_after, is_change, IsSettled}
+use Rattle.q4_machine.specs.History.{IsSettled}
 use Rattle.q4_machine.specs.Parts.{Answer, Replied, WantsMemory, Worn, IsPart}
 use Rattle.q4_machine.specs.Patience.{PatienceState}
 use Rattle.q4_proto.specs.declared.command.Command.{Command}
 use Rattle.q4_proto.specs.declared.command.CommandFault.{CommandFault}
 use Rattle.q4_proto.specs.Commands.{Reads}
-use Rattle.q4_proto.specs.Told.{Told}
-use Rattle.q4_session.specs.Exchanges.{Client, Exchange, Obeys, Does, IsExchange, AreExchanges, call_of, reply_outcome, answer_outcome, fault_outcome, grown_by}
+use Rattle.q4_session.specs.Exchanges.{Client, Exchange, Obeys, Does, IsExchange, AreExchanges, call_of, answer_outcome, grown_by}
 use Rattle.q4_session.specs.Standing.{IsGranted, IsDone}
 
 head_is : {X : Type 0} (x y : X) (xs ys : List X) → x ∷ xs ≡ y ∷ ys → x ≡ y

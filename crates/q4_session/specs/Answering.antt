@@ -13,7 +13,7 @@ use Rattle.q4_session.specs.declared.answering.Answered.{Answered}
 use Rattle.q4_session.specs.declared.answering.Answered.TheVariants as answered
 use Rattle.q4_session.specs.declared.sessions.SessionEnd.{SessionEnd}
 use Rattle.q4_session.specs.declared.sessions.SessionEnd.TheVariants as end
-use Rattle.q4_session.specs.Exchanges.{Client, Exchange, IsExchange, Obeys, call_of}
+use Rattle.q4_session.specs.Exchanges.{Client, IsExchange, Obeys, call_of}
 
 -- What was written of an outcome: its text, and where the sink failed a front of it. `Quit` comes exactly with `bye`.
 abbrev pub Writes : Option (List ℕ) → Option (List ℕ) → Told → Answered → Type 0

@@ -1,5 +1,5 @@
 -- Where the entry of an answered line stands.
-use Rattle.std.specs.Prelude.{◌≡◌, ◌++◌, ◌∷◌, ℕ, List, Some, Ok, length}
+use Rattle.std.specs.Prelude.{◌≡◌, ◌++◌, ◌∷◌, List, Some, Ok, length}
 use Rattle.q4_machine.specs.declared.entry.Entry.{Entry}
 use Rattle.q4_machine.specs.History.{IsSettled}
 use Rattle.q4_proto.specs.declared.command.Command.{Command}

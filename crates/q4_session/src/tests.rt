@@ -679,8 +679,27 @@ const FULL_HISTORY: &[u8] = b"err\t70\thistory full\t1048572\n";
 
 const FULL_BEFORE: &[u8] = b"err\t70\thistory full\t1048573\n";
 
-// A history takes 1,048,570 such lines behind an opening, and the next one is refused. Then no session is opened: its
-// input is not read, and it leaves no entry.
+// No session is opened on a full history: its input is not read, and it leaves no entry.
+fn check_refused(
+    rt: &impl Abort,
+    alloc: Global,
+    desk: &mut OneDesk,
+    failing: &[u64],
+    written: &[u8],
+    end: SessionEnd,
+)
+    requires { desk.old.current ≡ None }
+    ensures { desk.new.current ≡ None }
+{
+    let mut source = in_pieces(rt, alloc, b"quit\n", &[1], 20);
+    let mut sink = MemorySink::new(alloc, failing).expect(rt, "memory");
+    let ended = session(&(), alloc, desk, &mut source, &mut sink, &mut Never::new());
+    assert_eq!(rt; ended, end);
+    assert_eq!(rt; sink.bytes(), written);
+    assert_eq!(rt; desk.history().len(), 1_048_573);
+}
+
+// A history takes 1,048,570 such lines behind an opening, and the next one is refused.
 #[test]
 fn full_histories(rt: HostRuntime) {
     let alloc = rt.alloc();
@@ -697,22 +716,7 @@ fn full_histories(rt: HostRuntime) {
     assert!(rt; past.sink.bytes() == replies.as_slice());
     assert_eq!(rt; past.end, SessionEnd::Ended);
     let Past { mut desk, .. } = past;
-    for (failing, written, end) in [
-        ([].as_slice(), FULL_BEFORE, SessionEnd::Worn(1_048_573)),
-        (&[1], b"", SessionEnd::WriteFault),
-    ] {
-        let mut source = in_pieces(&rt, alloc, b"quit\n", &[1], 20);
-        let mut sink = MemorySink::new(alloc, failing).expect(&rt, "memory");
-        let ended = session(
-            &(),
-            alloc,
-            &mut desk,
-            &mut source,
-            &mut sink,
-            &mut Never::new(),
-        );
-        assert_eq!(rt; ended, end);
-        assert_eq!(rt; sink.bytes(), written);
-        assert_eq!(rt; desk.history().len(), 1_048_573);
-    }
+    let end = SessionEnd::Worn(1_048_573);
+    check_refused(&rt, alloc, &mut desk, &[], FULL_BEFORE, end);
+    check_refused(&rt, alloc, &mut desk, &[1], b"", SessionEnd::WriteFault);
 }

@@ -2,8 +2,6 @@ use Rattle.std.proofs.Common.{◌≡◌, ℕ, Some, None}
 use Rattle.q4_flow.specs.Lines.{fuel}
 use Rattle.q4_machine.specs.History.{definitions_of}
 use Rattle.q4_machine.specs.Parts.{IsInOrder}
-use Rattle.q4_session.specs.Exchanges.{Client}
-use Rattle.q4_session.specs.Sessions.{Around}
 use Rattle.q4_session.proofs.Conversing.{Conversing}
 use Rattle.q4_session.proofs.sessions.converse.Given as goal
 

@@ -1,7 +1,6 @@
 use Rattle.std.proofs.Common.{◌≡◌, inr, refl, ap}
 use Rattle.q4_proto.specs.Told.{told}
 use Rattle.q4_proto.specs.Text.{text}
-use Rattle.q4_session.specs.Sessions.{Around}
 use Rattle.q4_session.proofs.Opening.{not_opened}
 use Rattle.q4_session.proofs.sessions.session.Goals as goal
 
