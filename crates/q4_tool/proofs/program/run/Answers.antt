@@ -1,11 +1,11 @@
 use Rattle.std.proofs.Common.{◌≡◌, ◌∷◌, [], List, All, inl, subst, IsTrue}
 use Rattle.q4_def.specs.declared.table_def.TableDef.{TableDef}
 use Rattle.q4_machine.specs.declared.entry.Entry.{Entry}
-use Rattle.q4_machine.specs.History.{definitions_of, IsSettled, SyncsAreOwed}
+use Rattle.q4_machine.specs.History.{definitions_of, IsSettled}
 use Rattle.q4_machine.specs.Patience.{PatienceState}
 use Rattle.q4_machine.specs.Recorded.{opened_new, entry_limit}
 use Rattle.q4_machine.proofs.Opened.{defined_new}
-use Rattle.q4_session.specs.Sessions.{Session, Around}
+use Rattle.q4_session.specs.Sessions.{Session}
 use Rattle.q4_tool.specs.Tool.{fresh_patience}
 use Rattle.q4_tool.proofs.program.run.Goals as goal
 
