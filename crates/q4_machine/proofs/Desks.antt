@@ -22,7 +22,7 @@ use Rattle.q4_machine.specs.declared.desk.InsertFault.{InsertFault}
 use Rattle.q4_machine.specs.declared.desk.InsertFault.TheVariants as insert_fault
 use Rattle.q4_machine.specs.Step.{look_reply}
 use Rattle.q4_machine.specs.History.{state_after, is_added, is_owner, is_change, IsSettled, SyncsAreOwed, IsOpenFor}
-use Rattle.q4_machine.specs.Parts.{calls_of, IsWorn, Answer, Replied, WantsMemory, is_owner_mode, ends_first, ending, HadRoom, WasWorn, IsPart, IsInOrder, Grows, IsOpened, IsClosed, fault_answer, insert_answer, wait_answer, select_answer}
+use Rattle.q4_machine.specs.Parts.{IsWorn, Answer, Replied, WantsMemory, is_owner_mode, ends_first, ending, HadRoom, WasWorn, IsPart, IsInOrder, Grows, IsOpened, IsClosed, fault_answer, insert_answer, wait_answer, select_answer}
 use Rattle.q4_machine.specs.Recorded.{Recorded, DeskState, entry, pushed, answered, IsInsertRefusal, entry_limit, open_sessions, ended_first, LookedUntil, HasRoom, HasBegun, IsSound}
 use Rattle.q4_machine.specs.OneDesk.{IsDesk}
 use Rattle.q4_table.proofs.Lookup.{some_of}
@@ -388,7 +388,7 @@ opened_desk r0 r1 r2 s desk begun first sound open_for =
     let worn = not_worn h begun.fresh in
     let settled = λ (place : ℕ). subst (λ x. IsSettled x place) (sym grew) (settled_push h a desk.settled refl place) in (
       desk_of r2 (Some s) s refl sound open_for settled (subst SyncsAreOwed (sym grew) (owed_push h a desk.in_order.owed (λ e. cc e)))
-      (omega (arith, size, sessions, start, same_room, begun.room.0), omega (arith, size, sessions, start, begun.room.1)) (omega (arith, size, sessions, worn)),
+          (omega (arith, size, sessions, start, same_room, begun.room.0), omega (arith, size, sessions, start, begun.room.1)) (omega (arith, size, sessions, worn)),
       (a ∷ [], grew, record { front = []; back = []; cut = refl; none_front = refl; none_back = refl; room = subst (λ x. IsWorn entry_limit x → ⊥) (sym (append-nil h)) begun.fresh }),
     )
 

@@ -1,5 +1,5 @@
 -- What holds of a desk in memory.
-use Rattle.std.specs.Prelude.{◌≡◌, ◌<◌, ◌+◌, ℕ, List, Option, Some, None, [], ◌∷◌, length}
+use Rattle.std.specs.Prelude.{◌≡◌, ◌<◌, ◌+◌, ℕ, List, Option, None, [], ◌∷◌, length}
 use Rattle.q4_def.specs.declared.table_def.TableDef.{TableDef}
 use Rattle.q4_machine.specs.History.{definitions_of, IsSettled}
 use Rattle.q4_machine.specs.Parts.{IsInOrder}

@@ -1,5 +1,5 @@
 -- What contracts see of a patience, and what a wait makes of it.
-use Rattle.std.specs.Prelude.{◌≡◌, ◌≤◌, ◌<◌, ◌+◌, ◌-◌, ◌^◌, ℕ, Bool, true, false, Option, None, min, if◌then◌else◌}
+use Rattle.std.specs.Prelude.{◌≡◌, ◌≤◌, ◌<◌, ◌+◌, ◌-◌, ◌^◌, ℕ, Bool, false, Option, None, min, if◌then◌else◌}
 
 -- how often `start` was called and the seconds of its last call, how often `over` was answered true, how often it was
 -- answered at all, and how many answers `false` may still come before the next `start`

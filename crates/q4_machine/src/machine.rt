@@ -257,8 +257,8 @@ impl Machine {
             SessionMode::NonOwner => remove_session(&mut self.sessions, session),
             SessionMode::Empty => remove_session(&mut self.sessions, session),
             SessionMode::Owner(place, number) => {
-                let opening = &mut self.tables[place as usize];
-                opening.table.release(number);
+                let owned = &mut self.tables[place as usize];
+                owned.table.release(number);
                 remove_session(&mut self.sessions, session);
             }
         }

@@ -1,7 +1,6 @@
 use Rattle.std.proofs.Common.{◌≡◌, ◌∙◌, List, All, Some, refl, sym, ap, subst, inr}
 use Rattle.q4_machine.specs.declared.entry.Call.TheVariants.{Sync}
 use Rattle.q4_machine.specs.declared.entry.Reply.TheVariants.{Done}
-use Rattle.q4_machine.specs.declared.entry.Entry.{Entry}
 use Rattle.q4_machine.specs.declared.looks.Listed.{Listed}
 use Rattle.q4_machine.specs.declared.session.SessionMode.TheVariants.{NonOwner}
 use Rattle.q4_machine.specs.Definitions.{IsListed}

@@ -1,9 +1,9 @@
-use Rattle.std.proofs.Common.{◌∙◌, Ok, Err, None, inl, sym, ap, subst}
+use Rattle.std.proofs.Common.{◌∙◌, Ok, sym, ap, subst}
 use Rattle.q4_machine.specs.History.{definitions_of}
 use Rattle.q4_machine.specs.Parts.{Grows, IsOpened}
 use Rattle.q4_machine.specs.Recorded.{Recorded, DeskState, entry_limit}
 use Rattle.q4_machine.specs.OneDesk.{IsDesk, IsOneDesk}
-use Rattle.q4_machine.proofs.Desks.{desk_reserved, opened_desk, refused_opening}
+use Rattle.q4_machine.proofs.Desks.{desk_reserved, opened_desk}
 use Rattle.q4_machine.proofs.one_desk.OneDeskDesk.open.Goals as goal
 
 pub invariant_of-self : goal.invariant_of-self

@@ -1,9 +1,9 @@
-use Rattle.std.proofs.Common.{◌≡◌, ◌∙◌, List, Some, Ok, All, refl, sym, ap, subst}
+use Rattle.std.proofs.Common.{◌∙◌, Ok, ap}
 use Rattle.q4_machine.specs.declared.entry.Call.TheVariants as call
 use Rattle.q4_machine.specs.History.{definitions_of}
 use Rattle.q4_machine.specs.Parts.{Replied, wait_answer}
 use Rattle.q4_machine.specs.Step.{look_reply}
-use Rattle.q4_machine.proofs.Desks.{desk_reserved, begun_room, room_ended, no_call, waited, part_for, part_as, fault_for, wait_replied}
+use Rattle.q4_machine.proofs.Desks.{desk_reserved, waited, part_for, part_as, fault_for, wait_replied}
 use Rattle.q4_machine.proofs.one_desk.OneDeskDesk.wait.Goals as goal
 
 pub invariant_of-self : goal.invariant_of-self
