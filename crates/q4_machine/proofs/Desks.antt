@@ -4,6 +4,7 @@ use Rattle.std.proofs.lemmas.Bool.{cases_lt}
 use Rattle.std.proofs.lemmas.List.{length-append}
 use Rattle.std.proofs.lemmas.List.Elements.{All-nil, All-cons, All-head, All-tail}
 use Rattle.q4_value.specs.declared.row.Value.{Value}
+use Rattle.q4_def.specs.declared.table_def.TableDef.{TableDef}
 use Rattle.q4_machine.specs.declared.entry.Entry.{Entry}
 use Rattle.q4_machine.specs.declared.entry.Call.{Call}
 use Rattle.q4_machine.specs.declared.entry.Call.TheVariants.{Open, Insert, Look, End, Select, Close, Sync}
@@ -24,7 +25,7 @@ use Rattle.q4_machine.specs.Step.{look_reply}
 use Rattle.q4_machine.specs.History.{state_after, is_added, is_owner, is_change, IsSettled, SyncsAreOwed, IsOpenFor}
 use Rattle.q4_machine.specs.Parts.{IsWorn, Answer, Replied, WantsMemory, is_owner_mode, ends_first, ending, HadRoom, WasWorn, IsPart, IsInOrder, Grows, IsOpened, IsClosed, fault_answer, insert_answer, wait_answer, select_answer}
 use Rattle.q4_machine.specs.Recorded.{Recorded, DeskState, entry, pushed, answered, IsInsertRefusal, entry_limit, open_sessions, ended_first, LookedUntil, HasRoom, HasBegun, IsSound}
-use Rattle.q4_machine.specs.OneDesk.{IsDesk}
+use Rattle.q4_machine.specs.OneDesk.{IsDesk, BeginsNew}
 use Rattle.q4_table.proofs.Lookup.{some_of}
 use Rattle.q4_machine.proofs.Openers.{opened_by_zero}
 use Rattle.q4_machine.proofs.Validity.{none_some}
@@ -349,6 +350,15 @@ waited r0 r1 r2 r3 current s list r owes is desk begun ended owed looked sound o
     let mode : mode_of (state_after r1.seen) s ≡ mode_of (state_after r0.seen) s = ap (λ h. mode_of (state_after h) s) begun.seen in
     let seen : r2.seen ≡ r0.seen ++ ending (is_owner_mode (mode_of (state_after r0.seen) s)) 0 s = ap (λ (x : Recorded). x.seen) ended ∙ ap (λ h. h ++ ending (is_owner_mode (mode_of (state_after h) s)) 0 s) begun.seen in
     waited_from r0 r1 r2 r3 current s list r (mode_of (state_after r0.seen) s) refl is desk begun seen (ap (λ (x : Recorded). x.room) ended) (subst (LookedUntil r2 r3 s (Look list) r) (owed ∙ ap is_owner mode) looked) sound open_for
+
+-- ## The first entry
+
+-- a history that grew begins as it did
+pub begins_grown : (defs : List TableDef) (old new : List Entry) (P : List Entry → Type 0) → BeginsNew defs old → Grows old new P → BeginsNew defs new
+begins_grown defs old new P begins grows = (begins.0 ++ grows.0, grows.1 ∙ ap (λ h. h ++ grows.0) begins.1)
+
+pub begins_same : (defs : List TableDef) (old new : List Entry) → BeginsNew defs old → new ≡ old → BeginsNew defs new
+begins_same defs old new begins same = (begins.0, same ∙ begins.1)
 
 -- ## As the desk's clauses say it
 

@@ -243,7 +243,8 @@ impl Machine {
 
     /// How many sessions are open.
     pub fn sessions(&self) -> u64
-        ensures { result ≡ length self.now.sessions }
+        ensures count { result ≡ length self.now.sessions }
+        ensures valid { IsValid self.now }
     {
         self.sessions.len() as u64
     }
