@@ -2,5 +2,14 @@ pub mod Splitting
 pub mod Values
 pub mod Named
 pub mod Refusing
+pub mod Colons
+pub mod Entries
 pub mod Waiting
+pub mod Selecting
 pub mod Apart
+pub mod Writing
+pub mod Once
+pub mod OneFault
+pub mod Deciding
+pub mod Judging
+pub mod Answered

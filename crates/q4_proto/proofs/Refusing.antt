@@ -1,9 +1,8 @@
 -- How the fields of an insert are refused: no earlier check stands.
-use Rattle.std.proofs.Common.{◌≡◌, ◌≢◌, ◌<◌, ◌≤◌, ◌+◌, ◌++◌, ◌∷◌, ◌∙◌, [], List, ℕ, Some, Result, Ok, Err, All, map, length, take, refl, sym, ap, subst, arith, drop}
-use Rattle.std.specs.List.{zip, Contains}
+use Rattle.std.proofs.Common.{◌≡◌, ◌≢◌, ◌<◌, ◌≤◌, ◌∷◌, ◌∙◌, [], List, ℕ, Some, Err, All, map, length, take, refl, sym, ap, subst, arith}
+use Rattle.std.specs.List.{zip}
 use Rattle.std.specs.Prelude.{slice_get}
 use Rattle.std.proofs.lemmas.List.Elements.{All-nil, All-cons}
-use Rattle.q4_value.specs.declared.column.Column.{Column}
 use Rattle.q4_value.specs.declared.row.Value.{Value}
 use Rattle.q4_value.specs.Escape.{escaped}
 use Rattle.q4_value.specs.Row.{row_limit, IsRowOf, row_size}
@@ -11,27 +10,28 @@ use Rattle.q4_def.specs.declared.table_def.TableDef.{TableDef}
 use Rattle.q4_def.specs.Tables.{AreDefs, names_of}
 use Rattle.q4_machine.specs.Definitions.{columns_at}
 use Rattle.q4_machine.proofs.Histories.{cons_head, cons_tail}
-use Rattle.q4_proto.specs.declared.command.Command.{Command}
-use Rattle.q4_proto.specs.declared.command.Command.TheVariants as spelled
 use Rattle.q4_proto.specs.declared.command.CommandFault.{CommandFault}
-use Rattle.q4_proto.specs.declared.command.CommandFault.TheVariants.{NotText, Unknown, NotBuilt, Fields, Escape, NoTable, Cond, Count, Value as BadValue, Long, Memory}
+use Rattle.q4_proto.specs.declared.command.CommandFault.TheVariants.{NotText, Unknown, NotBuilt, Fields, Number, Escape, Entries, NoTable, Cond, Count, Value as BadValue, Long, Memory}
 use Rattle.q4_proto.specs.declared.keyword.Keyword.TheVariants.{Insert}
 use Rattle.q4_proto.specs.Fields.{IsSpelled, IsFirst}
-use Rattle.q4_proto.specs.Commands.{spelled_value, SpellsInsert, IsOfNoTable, IsInsertInto, IsMisspelled, FirstMisspelled, IsLongRow, Stands, rank, NoneBefore, IsRefused, ReadsFields, ReadsValues}
+use Rattle.q4_proto.specs.Commands.{spelled_value, SpellsInsert, IsOfNoTable, IsInsertInto, IsMisspelled, FirstMisspelled, Stands, NoneBefore, IsRefused, ReadsFields}
+use Rattle.q4_proto.specs.Inner.{ReadsValues}
 use Rattle.q4_proto.proofs.Named.{escaped_name, found_name, found_contained, found_inside, one_place}
-use Rattle.q4_proto.proofs.Values.{all_at, none_misspelled, row_length}
+use Rattle.q4_proto.proofs.Values.{all_at, none_misspelled}
 
 cons_nil : {X : Type 0} (x : X) (xs : List X) → x ∷ xs ≡ [] → ⊥
 cons_nil x xs is = cc is
 
 -- ## Before the table is looked for
 
-pub before_table : (defs : List TableDef) (args values : List (List ℕ)) (field : List ℕ) → args ≡ field ∷ values → All IsSpelled args → NoneBefore defs Insert args 5
+pub before_table : (defs : List TableDef) (args values : List (List ℕ)) (field : List ℕ) → args ≡ field ∷ values → All IsSpelled args → NoneBefore defs Insert args 7
 before_table defs args values field is spelled NotText lower stands = stands
 before_table defs args values field is spelled Unknown lower stands = stands
 before_table defs args values field is spelled NotBuilt lower stands = stands
 before_table defs args values field is spelled Fields lower stands = cons_nil field values (sym is ∙ stands)
+before_table defs args values field is spelled (Number k) lower stands = stands
 before_table defs args values field is spelled (Escape k) lower stands = stands.holds (all_at IsSpelled args stands.before stands.after stands.found spelled stands.cut)
+before_table defs args values field is spelled Entries lower stands = stands
 before_table defs args values field is spelled (NoTable k) lower stands = let none : ⊥ = omega (arith, lower) in absurd none
 before_table defs args values field is spelled (Cond entry why) lower stands = let none : ⊥ = omega (arith, lower) in absurd none
 before_table defs args values field is spelled (Count n) lower stands = let none : ⊥ = omega (arith, lower) in absurd none
@@ -88,12 +88,14 @@ table_found defs args values field place into k first =
     let same : first.found ≡ field = all_at (λ f. f ≡ field) (take 1 args) first.before first.after first.found one first.cut in
     first.holds field (same ∙ sym (named defs args values field place into)) (found_contained defs place field into.is_table)
 
-pub before_count : (defs : List TableDef) (args values : List (List ℕ)) (field : List ℕ) (place : ℕ) → Into defs args values field place → NoneBefore defs Insert args 7
+pub before_count : (defs : List TableDef) (args values : List (List ℕ)) (field : List ℕ) (place : ℕ) → Into defs args values field place → NoneBefore defs Insert args 9
 before_count defs args values field place into NotText lower stands = before_table defs args values field into.args_are into.spelled NotText (omega arith) stands
 before_count defs args values field place into Unknown lower stands = before_table defs args values field into.args_are into.spelled Unknown (omega arith) stands
 before_count defs args values field place into NotBuilt lower stands = before_table defs args values field into.args_are into.spelled NotBuilt (omega arith) stands
 before_count defs args values field place into Fields lower stands = before_table defs args values field into.args_are into.spelled Fields (omega arith) stands
+before_count defs args values field place into (Number k) lower stands = before_table defs args values field into.args_are into.spelled (Number k) (omega arith) stands
 before_count defs args values field place into (Escape k) lower stands = before_table defs args values field into.args_are into.spelled (Escape k) (omega arith) stands
+before_count defs args values field place into Entries lower stands = before_table defs args values field into.args_are into.spelled Entries (omega arith) stands
 before_count defs args values field place into (NoTable k) lower stands = table_found defs args values field place into k stands
 before_count defs args values field place into (Cond entry why) lower stands = stands
 before_count defs args values field place into (Count n) lower stands = let none : ⊥ = omega (arith, lower) in absurd none
@@ -111,12 +113,14 @@ count_found defs args values field place into same n (q, others, other, count, d
     let is = into_same defs args values field place into q others other in
     differs (ap length is.1 ∙ same ∙ sym (count ∙ ap (λ p. length (columns_at defs p)) is.0))
 
-pub before_values : (defs : List TableDef) (args values : List (List ℕ)) (field : List ℕ) (place : ℕ) → Into defs args values field place → length values ≡ length (columns_at defs place) → NoneBefore defs Insert args 8
+pub before_values : (defs : List TableDef) (args values : List (List ℕ)) (field : List ℕ) (place : ℕ) → Into defs args values field place → length values ≡ length (columns_at defs place) → NoneBefore defs Insert args 10
 before_values defs args values field place into same NotText lower stands = before_count defs args values field place into NotText (omega arith) stands
 before_values defs args values field place into same Unknown lower stands = before_count defs args values field place into Unknown (omega arith) stands
 before_values defs args values field place into same NotBuilt lower stands = before_count defs args values field place into NotBuilt (omega arith) stands
 before_values defs args values field place into same Fields lower stands = before_count defs args values field place into Fields (omega arith) stands
+before_values defs args values field place into same (Number k) lower stands = before_count defs args values field place into (Number k) (omega arith) stands
 before_values defs args values field place into same (Escape k) lower stands = before_count defs args values field place into (Escape k) (omega arith) stands
+before_values defs args values field place into same Entries lower stands = before_count defs args values field place into Entries (omega arith) stands
 before_values defs args values field place into same (NoTable k) lower stands = before_count defs args values field place into (NoTable k) (omega arith) stands
 before_values defs args values field place into same (Cond entry why) lower stands = before_count defs args values field place into (Cond entry why) (omega arith) stands
 before_values defs args values field place into same (Count n) lower stands = count_found defs args values field place into same n stands
@@ -134,7 +138,9 @@ values_fault defs args values field place into same NotText reads = absurd reads
 values_fault defs args values field place into same Unknown reads = absurd reads
 values_fault defs args values field place into same NotBuilt reads = absurd reads
 values_fault defs args values field place into same Fields reads = absurd reads
+values_fault defs args values field place into same (Number k) reads = absurd reads
 values_fault defs args values field place into same (Escape k) reads = absurd reads
+values_fault defs args values field place into same Entries reads = absurd reads
 values_fault defs args values field place into same (NoTable k) reads = absurd reads
 values_fault defs args values field place into same (Cond entry why) reads = absurd reads
 values_fault defs args values field place into same (Count n) reads = absurd reads
@@ -151,12 +157,14 @@ values_found defs args values field place row into are_row row_of j (q, others, 
     let here : FirstMisspelled columns (map spelled_value row) j = subst (λ vs. FirstMisspelled columns vs j) (is.1 ∙ are_row) (subst (λ p. FirstMisspelled (columns_at defs p) others j) is.0 first) in
     all_at (λ p. IsMisspelled p → ⊥) (zip columns (map spelled_value row)) here.first.before here.first.after here.first.found (none_misspelled columns row row_of) here.first.cut here.first.holds
 
-pub before_size : (defs : List TableDef) (args values : List (List ℕ)) (field : List ℕ) (place : ℕ) (row : List Value) → Into defs args values field place → length values ≡ length (columns_at defs place) → values ≡ map spelled_value row → IsRowOf (columns_at defs place) row → NoneBefore defs Insert args 9
+pub before_size : (defs : List TableDef) (args values : List (List ℕ)) (field : List ℕ) (place : ℕ) (row : List Value) → Into defs args values field place → length values ≡ length (columns_at defs place) → values ≡ map spelled_value row → IsRowOf (columns_at defs place) row → NoneBefore defs Insert args 11
 before_size defs args values field place row into same are_row row_of NotText lower stands = before_values defs args values field place into same NotText (omega arith) stands
 before_size defs args values field place row into same are_row row_of Unknown lower stands = before_values defs args values field place into same Unknown (omega arith) stands
 before_size defs args values field place row into same are_row row_of NotBuilt lower stands = before_values defs args values field place into same NotBuilt (omega arith) stands
 before_size defs args values field place row into same are_row row_of Fields lower stands = before_values defs args values field place into same Fields (omega arith) stands
+before_size defs args values field place row into same are_row row_of (Number k) lower stands = before_values defs args values field place into same (Number k) (omega arith) stands
 before_size defs args values field place row into same are_row row_of (Escape k) lower stands = before_values defs args values field place into same (Escape k) (omega arith) stands
+before_size defs args values field place row into same are_row row_of Entries lower stands = before_values defs args values field place into same Entries (omega arith) stands
 before_size defs args values field place row into same are_row row_of (NoTable k) lower stands = before_values defs args values field place into same (NoTable k) (omega arith) stands
 before_size defs args values field place row into same are_row row_of (Cond entry why) lower stands = before_values defs args values field place into same (Cond entry why) (omega arith) stands
 before_size defs args values field place row into same are_row row_of (Count n) lower stands = before_values defs args values field place into same (Count n) (omega arith) stands

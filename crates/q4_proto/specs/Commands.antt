@@ -1,5 +1,5 @@
 -- Which lines spell a command, and how other lines are refused.
-use Rattle.std.specs.Prelude.{None, ◌≡◌, ◌≢◌, ◌==◌, ◌<◌, ◌≤◌, ◌⊎◌, ◌++◌, ◌∷◌, [], ℕ, List, Option, Some, Result, Ok, Err, All, Contains, codes, length, map, take, slice_get}
+use Rattle.std.specs.Prelude.{None, ◌≡◌, ◌≢◌, ◌==◌, ◌<◌, ◌≤◌, ◌-◌, ◌⊎◌, ◌++◌, ◌∷◌, [], ℕ, List, Option, Some, Result, Ok, Err, Contains, codes, decimal, length, map, take, slice_get, slice_index_or, is_some, if◌then◌else◌}
 use Rattle.std.specs.List.{zip, before_first}
 use Rattle.std.specs.Fmt.{signed_decimal}
 use Rattle.std.specs.Str.{IsUtf8}
@@ -20,7 +20,7 @@ use Rattle.q4_machine.specs.Definitions.{columns_at, IsRowFor}
 use Rattle.q4_proto.specs.declared.command.Command as command
 use Rattle.q4_proto.specs.declared.command.Command.TheVariants as spelled
 use Rattle.q4_proto.specs.declared.command.CommandFault.{CommandFault}
-use Rattle.q4_proto.specs.declared.command.CommandFault.TheVariants.{NotText, Unknown, NotBuilt, Fields, Escape, NoTable, Cond, Count, Value as BadValue, Long, Memory}
+use Rattle.q4_proto.specs.declared.command.CommandFault.TheVariants.{NotText, Unknown, NotBuilt, Fields, Number, Escape, Entries, NoTable, Cond, Count, Value as BadValue, Long, Memory}
 use Rattle.q4_proto.specs.declared.keyword.Keyword.{Keyword}
 use Rattle.q4_proto.specs.declared.keyword.Keyword.TheVariants.{Insert, Source, Wait, RowId, End, Abort, Select, Compact, Quit}
 use Rattle.q4_proto.specs.Fields.{fields_of, IsSpelled, IsFirst}
@@ -51,6 +51,31 @@ pub record SpellsInsert (defs : List TableDef) (args : List (List ℕ)) (place :
   pub args_are : args ≡ escaped name ∷ map spelled_value row
   pub row_is : IsRowFor defs place row
 
+-- A select: the name of the table at this place, and the most rows, at most 1,000.
+pub record SpellsSelect (defs : List TableDef) (args : List (List ℕ)) (place most : ℕ) : Type 0 where
+  pub name : List ℕ
+  pub is_table : slice_get (names_of defs) place ≡ Some name
+  pub args_are : args ≡ escaped name ∷ decimal most ∷ []
+  pub few : most ≤ 1000
+
+-- what stands behind a `=` at the front
+abbrev pub behind_equal : List ℕ → Option (List ℕ)
+behind_equal [] = None
+behind_equal (b ∷ rest) = if b == 61 then Some rest else None
+
+-- The seconds of a wait stand in its last field, behind a `=`.
+abbrev pub seconds_of : List (List ℕ) → Option (List ℕ)
+seconds_of args = behind_equal (slice_index_or args (length args - 1) [])
+
+-- its other fields
+abbrev pub entries_of : List (List ℕ) → List (List ℕ)
+entries_of args = if is_some (seconds_of args) then take (length args - 1) args else args
+
+-- The seconds are at most 3,600, and 60 where no field gives them.
+abbrev pub IsSeconds : Option (List ℕ) → ℕ → Type 0
+IsSeconds None seconds = seconds ≡ 60
+IsSeconds (Some digits) seconds = (digits ≡ decimal seconds) × (seconds ≤ 3600)
+
 -- An entry of a wait is the name of a table, or the name, `:` and the text of a condition. The name alone has the text
 -- without a byte.
 abbrev pub IsEntry : List ℕ → List ℕ → List ℕ → Type 0
@@ -64,39 +89,75 @@ pub record SpellsEntry (defs : List TableDef) (field : List ℕ) (listed : Liste
   pub field_is : IsEntry field name text
   pub cond_is : ReadsAs (columns_at defs listed.table) text listed.cond
 
--- The fields behind this word spell the command. So far a wait has one entry.
+-- Each entry spells the one at its place in the list.
+abbrev pub SpellEntries : List TableDef → List (List ℕ) → List Listed → Type 0
+SpellEntries defs [] [] = Unit {0}
+SpellEntries defs (field ∷ fields) (listed ∷ list) = SpellsEntry defs field listed × SpellEntries defs fields list
+SpellEntries defs _ _ = ⊥
+
+-- A wait: 1 to 16 entries, and the seconds.
+pub record SpellsWait (defs : List TableDef) (args : List (List ℕ)) (list : List Listed) (seconds : ℕ) : Type 0 where
+  pub some : entries_of args ≢ []
+  pub few : length (entries_of args) ≤ 16
+  pub entries : SpellEntries defs (entries_of args) list
+  pub seconds_are : IsSeconds (seconds_of args) seconds
+
+-- The fields behind this word spell the command.
 abbrev pub Spells : List TableDef → Keyword → List (List ℕ) → command.Command → Type 0
 Spells defs Insert args (spelled.Insert place row) = SpellsInsert defs args place row
-Spells defs Wait args (spelled.Wait list) = (field : List ℕ) × (listed : Listed) × (args ≡ field ∷ []) × (list ≡ listed ∷ []) × SpellsEntry defs field listed
+Spells defs Wait args (spelled.Wait list seconds) = SpellsWait defs args list seconds
+Spells defs RowId args spelled.RowId = args ≡ []
 Spells defs End args spelled.End = args ≡ []
+Spells defs Abort args spelled.Abort = args ≡ []
+Spells defs Select args (spelled.Select place most) = SpellsSelect defs args place most
 Spells defs Quit args spelled.Quit = args ≡ []
 Spells defs _ args _ = ⊥
 
 -- ## Why they are refused
 
-abbrev pub BeginsEqual : List ℕ → Type 0
-BeginsEqual [] = ⊥
-BeginsEqual (b ∷ rest) = b ≡ 61
+-- The command is not built.
+abbrev pub IsNotBuilt : Keyword → Type 0
+IsNotBuilt Source = Unit {0}
+IsNotBuilt Compact = Unit {0}
+IsNotBuilt _ = ⊥
 
--- The command is not built: some of them, and a wait of another number of fields than one, or whose field begins with `=`.
-abbrev pub IsNotBuilt : Keyword → List (List ℕ) → Type 0
-IsNotBuilt Insert args = ⊥
-IsNotBuilt End args = ⊥
-IsNotBuilt Quit args = ⊥
-IsNotBuilt Wait (field ∷ []) = BeginsEqual field
-IsNotBuilt _ args = Unit {0}
-
--- There are too few or too many fields: for an insert no table, for `end` and `quit` any.
+-- There are too few or too many fields: for an insert no table, for a wait no entry, for a select other than two, for the
+-- others any.
 abbrev pub IsWrongCount : Keyword → List (List ℕ) → Type 0
 IsWrongCount Insert args = args ≡ []
-IsWrongCount End args = args ≢ []
-IsWrongCount Quit args = args ≢ []
-IsWrongCount _ args = ⊥
+IsWrongCount Source args = ⊥
+IsWrongCount Wait args = entries_of args ≡ []
+IsWrongCount Select args = length args ≢ 2
+IsWrongCount Compact args = ⊥
+IsWrongCount _ args = args ≢ []
+
+-- No number up to the most is spelled so.
+abbrev pub IsNoNumber : ℕ → List ℕ → Type 0
+IsNoNumber most digits = (number : ℕ) → number ≤ most → digits ≡ decimal number → ⊥
+
+-- This field, counted from 1, should be a number, and is none or too large: the seconds of a wait, or the most of a select.
+abbrev pub IsBadNumber : Keyword → List (List ℕ) → ℕ → Type 0
+IsBadNumber Wait args field = (digits : List ℕ) × (seconds_of args ≡ Some digits) × (field ≡ length args) × IsNoNumber 3600 digits
+IsBadNumber Select args field = (name : List ℕ) × (digits : List ℕ) × (args ≡ name ∷ digits ∷ []) × (field ≡ 2) × IsNoNumber 1000 digits
+IsBadNumber _ args field = ⊥
+
+-- the fields that are texts, which are all that are no numbers of code 13
+abbrev pub text_fields : Keyword → List (List ℕ) → List (List ℕ)
+text_fields Insert args = args
+text_fields Wait args = entries_of args
+text_fields Select args = take 1 args
+text_fields _ args = []
+
+-- There are more than 16 entries.
+abbrev pub IsTooMany : Keyword → List (List ℕ) → Type 0
+IsTooMany Wait args = 16 < length (entries_of args)
+IsTooMany _ args = ⊥
 
 -- the fields that name tables
 abbrev pub table_fields : Keyword → List (List ℕ) → List (List ℕ)
 table_fields Insert args = take 1 args
-table_fields Wait args = args
+table_fields Wait args = entries_of args
+table_fields Select args = take 1 args
 table_fields _ args = []
 
 -- The field names this table: all of its text does, and in a wait what stands before its first `:`.
@@ -118,9 +179,9 @@ pub record EntryFails (defs : List TableDef) (field : List ℕ) (why : cond_faul
   pub fails : IsFault (columns_at defs place) text why
   pub told : why ≢ CondMemory
 
--- This entry of a wait, counted from 1, is the first whose condition is refused.
-pub record FirstEntryFails (defs : List TableDef) (args : List (List ℕ)) (entry : ℕ) (why : cond_fault.CondFault) : Type 0 where
-  pub first : IsFirst (λ field. (other : cond_fault.CondFault) × EntryFails defs field other) args entry
+-- This entry of these, counted from 1, is the first whose condition is refused.
+pub record FirstEntryFails (defs : List TableDef) (entries : List (List ℕ)) (entry : ℕ) (why : cond_fault.CondFault) : Type 0 where
+  pub first : IsFirst (λ field. (other : cond_fault.CondFault) × EntryFails defs field other) entries entry
   pub fails : EntryFails defs first.found why
 
 -- The fields of an insert name the table at this place, and then have these values.
@@ -150,11 +211,13 @@ pub record IsLongRow (columns : List Column) (values : List (List ℕ)) : Type 0
 
 -- The fault stands in the fields behind this word. Fields and entries are counted from 1.
 abbrev pub Stands : List TableDef → Keyword → List (List ℕ) → CommandFault → Type 0
-Stands defs keyword args NotBuilt = IsNotBuilt keyword args
+Stands defs keyword args NotBuilt = IsNotBuilt keyword
 Stands defs keyword args Fields = IsWrongCount keyword args
-Stands defs keyword args (Escape field) = IsFirst (λ f. IsSpelled f → ⊥) args field
+Stands defs keyword args (Number field) = IsBadNumber keyword args field
+Stands defs keyword args (Escape field) = IsFirst (λ f. IsSpelled f → ⊥) (text_fields keyword args) field
+Stands defs keyword args Entries = IsTooMany keyword args
 Stands defs keyword args (NoTable field) = IsFirst (IsOfNoTable defs keyword) (table_fields keyword args) field
-Stands defs Wait args (Cond entry why) = FirstEntryFails defs args entry why
+Stands defs Wait args (Cond entry why) = FirstEntryFails defs (entries_of args) entry why
 Stands defs Insert args (Count columns) = (place : ℕ) × (values : List (List ℕ)) × IsInsertInto defs args place values × (columns ≡ length (columns_at defs place)) × (length values ≢ columns)
 Stands defs Insert args (BadValue column) = (place : ℕ) × (values : List (List ℕ)) × IsInsertInto defs args place values × FirstMisspelled (columns_at defs place) values column
 Stands defs Insert args Long = (place : ℕ) × (values : List (List ℕ)) × IsInsertInto defs args place values × IsLongRow (columns_at defs place) values
@@ -166,13 +229,15 @@ rank NotText = 0
 rank Unknown = 1
 rank NotBuilt = 2
 rank Fields = 3
-rank (Escape field) = 4
-rank (NoTable field) = 5
-rank (Cond entry why) = 6
-rank (Count columns) = 7
-rank (BadValue column) = 8
-rank Long = 9
-rank Memory = 10
+rank (Number field) = 4
+rank (Escape field) = 5
+rank Entries = 6
+rank (NoTable field) = 7
+rank (Cond entry why) = 8
+rank (Count columns) = 9
+rank (BadValue column) = 10
+rank Long = 11
+rank Memory = 12
 
 -- No fault of an earlier check stands.
 abbrev pub NoneBefore : List TableDef → Keyword → List (List ℕ) → ℕ → Type 0
@@ -209,31 +274,3 @@ Reads defs line (Err NotText) = IsUtf8 line → ⊥
 Reads defs line (Err Unknown) = IsUtf8 line × ((keyword : Keyword) (args : List (List ℕ)) → Begins line keyword args → ⊥)
 Reads defs line (Err Memory) = Unit {0}
 Reads defs line read = ReadsLine defs line read
-
--- ## How the values of a row are read
-
--- the value that the field spells, or none of this kind
-abbrev pub ReadsValue : Kind → List ℕ → Option Value → Type 0
-ReadsValue kind field (Some value) = (kind_of value ≡ kind) × IsValue value × (field ≡ spelled_value value)
-ReadsValue kind field None = IsNoValue kind field
-
--- the row that the values spell, or the first that is none of its column
-abbrev pub ReadsValues : List Column → List (List ℕ) → Result (List Value) CommandFault → Type 0
-ReadsValues columns values (Ok row) = (values ≡ map spelled_value row) × IsRowOf columns row
-ReadsValues columns values (Err (BadValue column)) = FirstMisspelled columns values column
-ReadsValues columns values (Err Memory) = Unit {0}
-ReadsValues columns values (Err _) = ⊥
-
--- ## How the entry of a wait is read
-
--- what stands before the first `:` of the entry's text, and what stands behind it
-pub record IsCut (entry name text : List ℕ) : Type 0 where
-  pub front : name ≡ before_first (λ b. b == 58) entry
-  pub parts : ((entry ≡ name) × (text ≡ [])) ⊎ (entry ≡ name ++ 58 ∷ text)
-
--- the wait for the one entry of this table and this text, or the fault of its condition
-abbrev pub ReadsCondition : List TableDef → ℕ → List ℕ → Result command.Command CommandFault → Type 0
-ReadsCondition defs place text (Ok (spelled.Wait list)) = (listed : Listed) × (list ≡ listed ∷ []) × (listed.table ≡ place) × ReadsAs (columns_at defs place) text listed.cond
-ReadsCondition defs place text (Err (Cond entry why)) = (entry ≡ 1) × IsFault (columns_at defs place) text why × (why ≢ CondMemory)
-ReadsCondition defs place text (Err Memory) = Unit {0}
-ReadsCondition defs place text _ = ⊥

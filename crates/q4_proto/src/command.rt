@@ -7,6 +7,7 @@ ghost use Rattle.q4_proto.specs.Commands.{Reads, ReadsFields};
 use crate::fields::{Fields, split_line};
 use crate::insert::read_insert;
 use crate::keyword::{Keyword, keyword_of};
+use crate::select::read_select;
 use crate::wait::read_wait;
 use q4_cond::CondFault;
 use q4_def::Defs;
@@ -17,9 +18,15 @@ use std::alloc::Global;
 /// A command that a line spells. Tables go by their places, from 0.
 #[derive(Drop)]
 pub enum Command {
+    /// A row for this table.
     Insert(u32, Row),
-    Wait(Looks),
+    /// A wait for a row of this list, and its seconds.
+    Wait(Looks, u32),
+    RowId,
     End,
+    Abort,
+    /// The rows of this table, and at most so many.
+    Select(u32, u32),
     Quit,
 }
 
@@ -31,12 +38,16 @@ pub enum CommandFault {
     NotText,
     /// Its first field is no command's word.
     Unknown,
-    /// The command, or this form of it, is not built.
+    /// The command is not built.
     NotBuilt,
     /// The command has too few or too many fields.
     Fields,
+    /// This field is no canonical number, or one that is too large: seconds over 3,600, rows over 1,000.
+    Number(u32),
     /// This field is the escaped spelling of no text.
     Escape(u32),
+    /// There are more than 16 entries.
+    Entries,
     /// This field names no table.
     NoTable(u32),
     /// The condition of this entry is refused.
@@ -89,10 +100,21 @@ fn read_fields(
     match keyword {
         Keyword::Insert => read_insert(alloc, args, defs),
         Keyword::Wait => read_wait(alloc, args, defs),
+        Keyword::RowId => read_row_id(args),
         Keyword::End => read_end(args),
+        Keyword::Abort => read_abort(args),
+        Keyword::Select => read_select(args, defs),
         Keyword::Quit => read_quit(args),
-        Keyword::Source | Keyword::RowId | Keyword::Abort | Keyword::Select | Keyword::Compact =>
-            Err(CommandFault::NotBuilt),
+        Keyword::Source | Keyword::Compact => Err(CommandFault::NotBuilt),
+    }
+}
+
+fn read_row_id(args: &Fields) -> Result<Command, CommandFault>
+    ensures { (defs : List TableDef) → ReadsFields defs word.RowId args.now result }
+{
+    match args.again().next() {
+        Some(_) => Err(CommandFault::Fields),
+        None => Ok(Command::RowId),
     }
 }
 
@@ -102,6 +124,15 @@ fn read_end(args: &Fields) -> Result<Command, CommandFault>
     match args.again().next() {
         Some(_) => Err(CommandFault::Fields),
         None => Ok(Command::End),
+    }
+}
+
+fn read_abort(args: &Fields) -> Result<Command, CommandFault>
+    ensures { (defs : List TableDef) → ReadsFields defs word.Abort args.now result }
+{
+    match args.again().next() {
+        Some(_) => Err(CommandFault::Fields),
+        None => Ok(Command::Abort),
     }
 }
 

@@ -1,6 +1,7 @@
-ghost use Rattle.std.specs.Prelude.{◌≡◌, ◌<◌, ◌^◌, [], ◌∷◌, All, length, IfSome, IfNone};
+ghost use Rattle.std.specs.Prelude.{◌≡◌, ◌≢◌, ◌<◌, ◌^◌, [], ◌∷◌, ◌++◌, All, length, IfSome, IfNone};
 ghost use Rattle.q4_proto.specs.Fields.{fields_of, IsSpelled, IsFirst};
 
+use memchr::memrchr;
 use q4_value::is_escaped;
 use std::marker::Model;
 
@@ -48,6 +49,36 @@ impl<'a> Fields<'a> {
         let (field, rest) = split_line(line);
         self.rest = rest.rest;
         Some(field)
+    }
+
+    /// The fields, where there are two.
+    pub(crate) fn pair(&self) -> Option<(&'a str, &'a str)>
+        ensures two { IfSome result (λ pair. self.now ≡ pair.0.now ∷ pair.1.now ∷ []) }
+        ensures other { IfNone result (length self.now ≢ 2) }
+    {
+        let mut rest = self.again();
+        let first = rest.next()?;
+        let second = rest.next()?;
+        match rest.next() {
+            Some(_) => None,
+            None => Some((first, second)),
+        }
+    }
+
+    /// The last field, and those before it.
+    pub(crate) fn split_last(&self) -> Option<(Fields<'a>, &'a str)>
+        ensures cut { IfSome result (λ cut. self.now ≡ cut.0 ++ cut.1.now ∷ []) }
+        ensures none { IfNone result (self.now ≡ []) }
+    {
+        let line = self.rest?;
+        match memrchr(b'\t', line.as_bytes()) {
+            Some(tab) => {
+                let (front, back) = line.split_at(tab);
+                let (_, last) = back.split_at(1);
+                Some((Fields { rest: Some(front) }, last))
+            }
+            None => Some((Fields { rest: None }, line)),
+        }
     }
 
     /// How many fields there are.

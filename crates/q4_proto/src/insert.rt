@@ -1,7 +1,8 @@
 ghost use Rattle.std.specs.Prelude.{◌≡◌, ◌<◌, ◌≤◌, ◌^◌, length, All, IfOk};
 ghost use Rattle.q4_proto.specs.declared.keyword.Keyword.TheVariants as word;
 ghost use Rattle.q4_proto.specs.Fields.{IsSpelled};
-ghost use Rattle.q4_proto.specs.Commands.{ReadsFields, ReadsValues, ReadsValue};
+ghost use Rattle.q4_proto.specs.Commands.{ReadsFields};
+ghost use Rattle.q4_proto.specs.Inner.{ReadsValues, ReadsValue};
 
 use crate::fields::Fields;
 use crate::{Command, CommandFault};

@@ -2,13 +2,13 @@ ghost use Rattle.std.specs.Prelude.{◌≡◌, ◌+◌, ◌≤◌, [], ◌++◌,
 
 use std::marker::Model;
 
-/// A short line is put together here, so that it goes out by one write.
-const SIZE: usize = 96;
+/// A reply is put together here, so that it goes out by one write.
+const SIZE: usize = 4_096;
 
-/// The bytes of a short line.
+/// The bytes of a reply, or of a part of a long one.
 #[derive(Drop)]
 pub struct LineBuffer {
-    bytes: [u8; 96],
+    bytes: [u8; 4096],
     filled: usize,
 }
 
@@ -19,7 +19,7 @@ impl Model for LineBuffer {
 
     ghost view = { λ b. take b.filled b.bytes };
 
-    ghost invariant = { λ b. b.filled ≤ 96 };
+    ghost invariant = { λ b. b.filled ≤ 4096 };
 }
 
 impl LineBuffer {
@@ -32,14 +32,27 @@ impl LineBuffer {
         }
     }
 
+    /// How many bytes more it takes.
+    pub fn room(&self) -> usize
+        ensures { result + length self.now ≡ 4096 }
+    {
+        SIZE - self.filled
+    }
+
     /// Puts the piece behind what is there.
     pub fn put(&mut self, piece: &[u8])
-        requires { length self.old + length piece.now ≤ 96 }
+        requires { length self.old + length piece.now ≤ 4096 }
         ensures { self.new ≡ self.old ++ piece.now }
     {
         let end = self.filled + piece.len();
         self.bytes[self.filled..end].copy_from_slice(piece);
         self.filled = end;
+    }
+
+    pub fn clear(&mut self)
+        ensures { self.new ≡ [] }
+    {
+        self.filled = 0;
     }
 
     pub fn as_slice(&self) -> &[u8]

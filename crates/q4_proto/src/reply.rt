@@ -1,14 +1,17 @@
 ghost use Rattle.std.specs.Prelude.{◌≡◌, ◌≤◌, ◌+◌, ◌++◌, OnOk, OnErr, IsSome, length, codes, decimal};
-ghost use Rattle.q4_proto.specs.declared.reply.Outcome.TheVariants as outcome;
 ghost use Rattle.std.specs.Option.{IsSomeAnd};
 ghost use Rattle.q4_flow.specs.Flow.{Took, TookFront, Counts};
+ghost use Rattle.q4_proto.specs.Told as told;
+ghost use Rattle.q4_proto.specs.Told.{told as seen_as};
 ghost use Rattle.q4_proto.specs.Text.{text, code, code_at, code_within, refusal_words, tab_number, fault_code, IsCode, IsOutcome};
 
 use crate::CommandFault;
 use crate::line_buffer::LineBuffer;
+use crate::rows::put_rows;
 use itoa::Buffer;
 use q4_cond::CondFault;
 use q4_flow::{Sink, WriteFailed};
+use q4_machine::Rows;
 
 /// A refusal: its code, and the numbers that the code's line names. The codes stand in docs/PROTOCOL.md.
 #[derive(Clone, Copy, Debug, PartialEq, Eq)]
@@ -19,11 +22,13 @@ pub struct Code {
 }
 
 /// What a line is answered.
-#[derive(Clone, Copy, Debug, PartialEq, Eq)]
-pub enum Outcome {
+#[derive(Clone, Copy)]
+pub enum Outcome<'a> {
     Ok,
     Number(u64),
     Seen(u64),
+    /// The rows that a select shows.
+    Rows(&'a Rows),
     Bye,
     Refused(Code),
 }
@@ -38,7 +43,9 @@ pub fn refusal_of(fault: CommandFault) -> Code
         CommandFault::Unknown => bare(11),
         CommandFault::NotBuilt => bare(19),
         CommandFault::Fields => bare(12),
+        CommandFault::Number(field) => at(13, field),
         CommandFault::Escape(field) => at(14, field),
+        CommandFault::Entries => bare(25),
         CommandFault::NoTable(field) => at(21, field),
         CommandFault::Cond(entry, fault) => cond_refusal(entry, fault),
         CommandFault::Count(columns) => at(20, columns),
@@ -92,23 +99,25 @@ fn within(number: u16, first: u32, second: u32) -> Code
     }
 }
 
-/// Writes the reply line by one write, and takes no memory. After a failure a front of it was written.
+/// Writes the reply, and takes no memory. A reply of up to 4,096 bytes is one write, and a longer one is written in pieces
+/// of 4,096. After a failure a front of it was written.
 pub fn put_reply<W: Sink>(outcome: &Outcome, sink: &mut W) -> Result<(), WriteFailed>
-    requires { IsOutcome outcome.now }
-    ensures all { OnOk result (Took (W.written sink.old) (W.written sink.new) (text outcome.now)) }
-    ensures front { OnErr result (TookFront (W.written sink.old) (W.written sink.new) (text outcome.now)) }
+    requires { IsOutcome (seen_as outcome.now) }
+    ensures all { OnOk result (Took (W.written sink.old) (W.written sink.new) (text (seen_as outcome.now))) }
+    ensures front { OnErr result (TookFront (W.written sink.old) (W.written sink.new) (text (seen_as outcome.now))) }
     ensures cause { Counts (W.faults sink.old) (W.faults sink.new) result }
 {
     match outcome {
         Outcome::Ok => sink.write(b"ok\n"),
         Outcome::Number(number) => sink.write(number_line(b"ok\t", *number).as_slice()),
         Outcome::Seen(mark) => sink.write(number_line(b"seen\t", *mark).as_slice()),
+        Outcome::Rows(rows) => put_rows(rows, sink),
         Outcome::Bye => sink.write(b"bye\n"),
         Outcome::Refused(code) => sink.write(refusal_line(*code).as_slice()),
     }
 }
 
-fn number_line(word: &[u8], number: u64) -> LineBuffer
+pub(crate) fn number_line(word: &[u8], number: u64) -> LineBuffer
     requires { length word.now ≤ 8 }
     ensures { result ≡ word.now ++ decimal number ++ codes "\n" }
 {
@@ -122,7 +131,7 @@ fn number_line(word: &[u8], number: u64) -> LineBuffer
 
 fn refusal_line(code: Code) -> LineBuffer
     requires { IsCode code }
-    ensures { result ≡ text (outcome.Refused code) }
+    ensures { result ≡ text (told.Refused code) }
 {
     let mut digits = Buffer::new();
     let mut line = LineBuffer::new();
@@ -158,6 +167,7 @@ fn refusal_words(number: u16) -> &'static [u8]
         10 => b"not UTF-8",
         11 => b"unknown command",
         12 => b"wrong number of fields",
+        13 => b"bad number",
         14 => b"bad escape",
         19 => b"not built",
         20 => b"wrong number of values",
@@ -165,16 +175,19 @@ fn refusal_words(number: u16) -> &'static [u8]
         22 => b"bad value",
         23 => b"row too long",
         24 => b"bad condition",
+        25 => b"too many entries",
         27 => b"condition too deep",
         28 => b"no column",
         29 => b"wrong kinds",
         30 => b"condition too long",
         31 => b"not in owner mode",
+        32 => b"no owned row",
         41 => b"table full",
         42 => b"table bytes",
         44 => b"numbers used up",
         60 => b"line too long",
         61 => b"partial line",
+        70 => b"history full",
         90 => b"out of memory",
         _ => unreachable!(),
     }

@@ -1,4 +1,4 @@
-use Rattle.std.proofs.Common.{◌≡◌, ◌≤◌, ◌∙◌, List, ℕ, Ok, Err, All, length, refl, sym, ap, subst, arith}
+use Rattle.std.proofs.Common.{◌≡◌, ◌≤◌, ◌∙◌, Ok, Err, All, length, sym, ap, subst, arith}
 use Rattle.std.specs.List.{Contains}
 use Rattle.std.proofs.lemmas.List.Elements.{All-tail}
 use Rattle.q4_value.proofs.Rows.{small_row}
@@ -7,7 +7,8 @@ use Rattle.q4_machine.specs.Definitions.{columns_at}
 use Rattle.q4_proto.specs.Fields.{IsSpelled}
 use Rattle.q4_proto.specs.declared.command.CommandFault.TheVariants as fault
 use Rattle.q4_proto.specs.declared.keyword.Keyword.TheVariants as word
-use Rattle.q4_proto.specs.Commands.{IsRefused, ReadsValues}
+use Rattle.q4_proto.specs.Commands.{IsRefused}
+use Rattle.q4_proto.specs.Inner.{ReadsValues}
 use Rattle.q4_proto.proofs.Named.{escaped_name, contained_name, columns_are}
 use Rattle.q4_proto.proofs.Refusing.{Into, no_table, wrong_count, values_fault, long_row, spells_insert}
 use Rattle.q4_proto.proofs.Values.{row_length}

@@ -1,6 +1,7 @@
-use Rattle.std.proofs.Common.{◌++◌, Some, map, sym, subst, ◌∙◌, ap, arith}
+use Rattle.std.proofs.Common.{◌++◌, map, subst, ◌∙◌, ap, arith}
 use Rattle.q4_proto.specs.Fields.{IsSpelled}
-use Rattle.q4_proto.specs.Commands.{spelled_value, ReadsValue}
+use Rattle.q4_proto.specs.Commands.{spelled_value}
+use Rattle.q4_proto.specs.Inner.{ReadsValue}
 use Rattle.q4_proto.proofs.Values.{all_at, first_misspelled, row_more}
 use Rattle.q4_proto.proofs.insert.read_values.Goals as goal
 

@@ -1,0 +1,21 @@
+use Rattle.std.proofs.Common.{◌∙◌, ◌≤◌, ◌<◌, ℕ, length, sym, ap, subst}
+use Rattle.std.specs.Option.{option_copied}
+use Rattle.std.specs.Str.{IsUtf8}
+use Rattle.memchr.specs.Find.{Passes, is_byte}
+use Rattle.q4_proto.specs.Fields.{fields_behind}
+use Rattle.q4_proto.proofs.Splitting.{IsLastTab, last_cut, no_cut, after_tab}
+use Rattle.q4_proto.proofs.fields.Fields.split_last.Goals as goal
+
+pub split_at-requires-in-Some : goal.split_at-requires-in-Some
+split_at-requires-in-Some c =
+    after_tab c.in_ok-line.line.now c.split_at.result.1.now c.in-Some.tab (subst IsUtf8 c.as_bytes.ensures.value c.as_bytes.ensures.utf8) (subst (λ xs. IsLastTab xs c.in-Some.tab) c.as_bytes.ensures.value c.in-Some.ensures) c.split_at.ensures.back
+
+pub returns-in-Some-clause-cut : goal.returns-in-Some-clause-cut
+returns-in-Some-clause-cut c =
+    sym c.self.view_is ∙ ap (λ o. fields_behind (option_copied o)) c.in_ok-line.was
+    ∙ last_cut c.in_ok-line.line.now c.split_at.result.0.now c.split_at.result.1.now c.split_at-in-Some.result.1.now c.in-Some.tab (subst (λ xs. IsLastTab xs c.in-Some.tab) c.as_bytes.ensures.value c.in-Some.ensures) c.split_at.ensures.front c.split_at.ensures.back c.split_at-in-Some.ensures.back
+
+pub returns-in-None-clause-cut : goal.returns-in-None-clause-cut
+returns-in-None-clause-cut c =
+    sym c.self.view_is ∙ ap (λ o. fields_behind (option_copied o)) c.in_ok-line.was
+    ∙ no_cut c.in_ok-line.line.now (subst (λ xs. (k : ℕ) → 0 ≤ k → k < length xs → Passes (is_byte 9) xs k → ⊥) c.as_bytes.ensures.value c.in-None.ensures)
