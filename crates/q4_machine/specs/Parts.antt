@@ -191,8 +191,9 @@ IsClosed caller s grown = of_caller caller grown ≡ record { caller = caller; s
 -- ## What a wait makes of its patience
 
 -- Where it was answered, the patience was started once, with these seconds, and asked; where the answer is that nothing
--- was found, the patience told that the time was over. Counts do not fall.
+-- was found, the patience told that the time was over.
 pub record Waits (before now : PatienceState) (seconds : ℕ) (answer : Answer) : Type 0 where
+  pub given : now.given ≡ before.given
   pub started : IsSome (replied answer) → (now.starts ≡ counted before.starts) × (now.limit ≡ seconds)
   pub asked : IsSome (replied answer) → Rose before.asks now.asks
   pub spent : answer ≡ Replied reply.Nothing → Rose before.spent now.spent

@@ -43,6 +43,7 @@ pub record Asked (before now : PatienceState) (answer : Bool) : Type 0 where
 
 -- It was asked for some looks, and where none was found it told that the time was over.
 pub record Looked (before now : PatienceState) (result : Option ℕ) : Type 0 where
+  pub given : now.given ≡ before.given
   pub starts : now.starts ≡ before.starts
   pub limit : now.limit ≡ before.limit
   pub asks : Rose before.asks now.asks
