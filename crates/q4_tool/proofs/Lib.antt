@@ -1,3 +1,1 @@
-pub mod Conversing
-pub mod Commanding
 pub mod Running

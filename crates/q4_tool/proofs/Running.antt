@@ -24,21 +24,21 @@ other_fault faults faults' why other (inl same) = same
 other_fault faults faults' why other (inr is) = absurd (other (cc is))
 
 -- definitions came, and the session ran or wanted memory
-pub ran_defined : (text text' : Option (List ℕ)) (text_ended : Type 0) (faults faults' : ℕ) (left left' : Option (List ℕ)) (ended : Type 0) (written written' : Option (List ℕ)) (status : ℕ) (defs : List TableDef)
+pub ran_defined : (text text' : Option (List ℕ)) (text_ended : Type 0) (faults faults' : ℕ) (left left' : Option (List ℕ)) (ended untouched : Type 0) (written written' : Option (List ℕ)) (status : ℕ) (defs : List TableDef)
     → Comes text text' text_ended (Rose faults faults') (Ok defs) → (faults' ≡ faults) ⊎ (◌≡◌ {A = Result (List TableDef) Undefined} (Ok defs) (Err ReadFault))
-    → Ran defs left left' ended written written' status ⊎ Says (undefined_line Memory) 9 left left' written written' status
-    → RunsDefined text text' text_ended faults faults' left left' ended written written' status
-ran_defined text text' text_ended faults faults' left left' ended written written' status defs comes stayed (inl ran) = record { came = Ok defs; comes = comes; stayed = stayed; runs = ran }
-ran_defined text text' text_ended faults faults' left left' ended written written' status defs comes stayed (inr says) =
+    → Ran defs left left' ended untouched written written' status ⊎ Says (undefined_line Memory) 9 left left' written written' status
+    → RunsDefined text text' text_ended faults faults' left left' ended untouched written written' status
+ran_defined text text' text_ended faults faults' left left' ended untouched written written' status defs comes stayed (inl ran) = record { came = Ok defs; comes = comes; stayed = stayed; runs = ran }
+ran_defined text text' text_ended faults faults' left left' ended untouched written written' status defs comes stayed (inr says) =
     record { came = Err Memory; comes = gave_some text text' text_ended (Rose faults faults') (Ok defs) comes; stayed = inl (no_fault faults faults' defs stayed); runs = says }
 
 -- none came, and it was said why, or memory was wanted
-pub refused_defined : (text text' : Option (List ℕ)) (text_ended : Type 0) (faults faults' : ℕ) (left : Option (List ℕ)) (ended : Type 0) (written written' : Option (List ℕ)) (status : ℕ) (why : Undefined)
+pub refused_defined : (text text' : Option (List ℕ)) (text_ended : Type 0) (faults faults' : ℕ) (left : Option (List ℕ)) (ended untouched : Type 0) (written written' : Option (List ℕ)) (status : ℕ) (why : Undefined)
     → Comes text text' text_ended (Rose faults faults') (Err why) → (faults' ≡ faults) ⊎ (◌≡◌ {A = Result (List TableDef) Undefined} (Err why) (Err ReadFault))
     → Prints (undefined_line why) (undefined_status why) written written' status ⊎ ((why ≢ ReadFault) × Prints (undefined_line Memory) 9 written written' status)
-    → RunsDefined text text' text_ended faults faults' left left ended written written' status
-refused_defined text text' text_ended faults faults' left ended written written' status why comes stayed (inl prints) = record { came = Err why; comes = comes; stayed = stayed; runs = (refl, prints) }
-refused_defined text text' text_ended faults faults' left ended written written' status why comes stayed (inr prints) =
+    → RunsDefined text text' text_ended faults faults' left left ended untouched written written' status
+refused_defined text text' text_ended faults faults' left ended untouched written written' status why comes stayed (inl prints) = record { came = Err why; comes = comes; stayed = stayed; runs = (refl, prints) }
+refused_defined text text' text_ended faults faults' left ended untouched written written' status why comes stayed (inr prints) =
     record { came = Err Memory; comes = gave_some text text' text_ended (Rose faults faults') (Err why) comes; stayed = inl (other_fault faults faults' why prints.0 stayed); runs = (refl, prints.1) }
 
 -- a source whose count rose failed

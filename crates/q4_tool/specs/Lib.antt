@@ -1,5 +1,2 @@
-pub mod Exchanges
-pub mod Sessions
-pub mod Answering
 pub mod Definitions
 pub mod Tool

@@ -5,12 +5,13 @@ use Rattle.q4_flow.specs.Flow.{Rose, Took, TookFront}
 use Rattle.q4_def.specs.declared.table_def.TableDef.{TableDef}
 use Rattle.q4_machine.specs.declared.entry.Entry.{Entry}
 use Rattle.q4_machine.specs.History.{IsLegal, IsSettled, SyncsAreOwed}
-use Rattle.q4_machine.specs.Recorded.{opened_new}
+use Rattle.q4_machine.specs.Patience.{PatienceState}
+use Rattle.q4_machine.specs.Recorded.{opened_new, entry_limit}
 use Rattle.q4_tool.specs.declared.definitions.Undefined.{Undefined}
 use Rattle.q4_tool.specs.declared.definitions.Undefined.TheVariants.{ReadFault}
-use Rattle.q4_tool.specs.declared.sessions.SessionEnd.{SessionEnd}
-use Rattle.q4_tool.specs.declared.sessions.SessionEnd.TheVariants as end
-use Rattle.q4_tool.specs.Sessions.{Session}
+use Rattle.q4_session.specs.declared.sessions.SessionEnd.{SessionEnd}
+use Rattle.q4_session.specs.declared.sessions.SessionEnd.TheVariants as end
+use Rattle.q4_session.specs.Sessions.{Session, Around}
 use Rattle.q4_tool.specs.Definitions.{Comes, undefined_line, undefined_status}
 
 -- The words are the one word `run`.
@@ -35,28 +36,37 @@ status_of (end.Partial count) = 6
 status_of end.TooLong = 6
 status_of end.ReadFault = 8
 status_of end.WriteFault = 7
+status_of (end.Worn count) = 10
 status_of end.Memory = 9
 
--- One session ran from the input to the output, over the one history of a desk that begins with the empty tables of
--- these definitions. All of it is the tool's own, by caller 0, and settled by syncs that were owed.
-pub record Ran (defs : List TableDef) (left left' : Option (List ℕ)) (ended : Type 0) (written written' : Option (List ℕ)) (status : ℕ) : Type 0 where
+-- a patience that was never started
+abbrev pub fresh_patience : PatienceState
+fresh_patience = record { starts = 0; limit = 0; spent = 0; asks = 0; turns = 0 }
+
+-- One session ran from the input to the output, with a patience whose time is always over, over the one history of a desk
+-- that begins with the empty tables of these definitions. All of it is the tool's own, by caller 0, and settled by syncs
+-- that were owed.
+pub record Ran (defs : List TableDef) (left left' : Option (List ℕ)) (ended untouched : Type 0) (written written' : Option (List ℕ)) (status : ℕ) : Type 0 where
   pub history : List Entry
   pub legal : IsLegal history
   pub by_zero : All (λ e. e.caller ≡ 0) history
   pub settled : (place : ℕ) → IsSettled history place
   pub owed : SyncsAreOwed history
+  pub patience : PatienceState
   pub how : SessionEnd
-  pub session : Session defs 0 (opened_new defs ∷ []) history left left' ended written written' how
+  pub session : Session defs entry_limit 0
+      (record { seen = opened_new defs ∷ []; left = left; written = written; patience = fresh_patience })
+      (record { seen = history; left = left'; written = written'; patience = patience }) ended untouched how
   pub status_is : status ≡ status_of how
 
 -- What `run` does where there are these definitions, and where there are none.
-abbrev pub Runs : Result (List TableDef) Undefined → Option (List ℕ) → Option (List ℕ) → Type 0 → Option (List ℕ) → Option (List ℕ) → ℕ → Type 0
-Runs (Ok defs) left left' ended written written' status = Ran defs left left' ended written written' status
-Runs (Err why) left left' ended written written' status = Says (undefined_line why) (undefined_status why) left left' written written' status
+abbrev pub Runs : Result (List TableDef) Undefined → Option (List ℕ) → Option (List ℕ) → Type 0 → Type 0 → Option (List ℕ) → Option (List ℕ) → ℕ → Type 0
+Runs (Ok defs) left left' ended untouched written written' status = Ran defs left left' ended untouched written written' status
+Runs (Err why) left left' ended untouched written written' status = Says (undefined_line why) (undefined_status why) left left' written written' status
 
 -- What came of the source of definitions, which failed as often as these counts say, and what `run` did.
-pub record RunsDefined (text text' : Option (List ℕ)) (text_ended : Type 0) (faults faults' : ℕ) (left left' : Option (List ℕ)) (ended : Type 0) (written written' : Option (List ℕ)) (status : ℕ) : Type 0 where
+pub record RunsDefined (text text' : Option (List ℕ)) (text_ended : Type 0) (faults faults' : ℕ) (left left' : Option (List ℕ)) (ended untouched : Type 0) (written written' : Option (List ℕ)) (status : ℕ) : Type 0 where
   pub came : Result (List TableDef) Undefined
   pub comes : Comes text text' text_ended (Rose faults faults') came
   pub stayed : (faults' ≡ faults) ⊎ (came ≡ Err ReadFault)
-  pub runs : Runs came left left' ended written written' status
+  pub runs : Runs came left left' ended untouched written written' status

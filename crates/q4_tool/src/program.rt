@@ -5,10 +5,10 @@ ghost use Rattle.q4_tool.specs.Definitions.{undefined_line, undefined_status};
 ghost use Rattle.q4_tool.specs.Tool.{AreRun, Prints, Ran, RunsDefined, Says, status_of};
 
 use crate::definitions::{Undefined, fault_line, read_definitions};
-use crate::{SessionEnd, session};
 use q4_def::Defs;
 use q4_flow::{Sink, Source, WriteFailed};
-use q4_machine::OneDesk;
+use q4_machine::{Never, OneDesk};
+use q4_session::{SessionEnd, session};
 use q4_value::NoMemory;
 use std::alloc::Global;
 
@@ -26,7 +26,7 @@ pub fn tool<S: Source, F: Source, W: Sink>(
 ) -> u8
     ensures run { AreRun words.now → RunsDefined
         (F.left definitions.old) (F.left definitions.new) (IsTrue (F.ended definitions.new)) (F.faults definitions.old) (F.faults definitions.new)
-        (S.left input.old) (S.left input.new) (IsTrue (S.ended input.new)) (W.written output.old) (W.written output.new) result }
+        (S.left input.old) (S.left input.new) (IsTrue (S.ended input.new)) (input.new ≡ input.old) (W.written output.old) (W.written output.new) result }
     ensures other { (AreRun words.now → ⊥) → Says (codes "words\n") 2 (S.left input.old) (S.left input.new) (W.written output.old) (W.written output.new) result }
     ensures unread { (AreRun words.now → ⊥) → (input.new ≡ input.old) × (definitions.new ≡ definitions.old) }
     ensures read_fault { result ≡ 8 → Rose (S.faults input.old) (S.faults input.new) ⊎ Rose (F.faults definitions.old) (F.faults definitions.new) }
@@ -49,7 +49,7 @@ pub fn tool<S: Source, F: Source, W: Sink>(
 
 // One session over empty tables of these definitions.
 fn run<S: Source, W: Sink>(alloc: Global, defs: Defs, input: &mut S, output: &mut W) -> u8
-    ensures ran { Ran defs (S.left input.old) (S.left input.new) (IsTrue (S.ended input.new)) (W.written output.old) (W.written output.new) result
+    ensures ran { Ran defs (S.left input.old) (S.left input.new) (IsTrue (S.ended input.new)) (input.new ≡ input.old) (W.written output.old) (W.written output.new) result
         ⊎ Says (undefined_line undefined.Memory) 9 (S.left input.old) (S.left input.new) (W.written output.old) (W.written output.new) result }
     ensures read_fault { result ≡ 8 → Rose (S.faults input.old) (S.faults input.new) }
     ensures read_faults { S.faults input.old < S.faults input.new → result ≡ 8 }
@@ -60,7 +60,8 @@ fn run<S: Source, W: Sink>(alloc: Global, defs: Defs, input: &mut S, output: &mu
 {
     match OneDesk::new(alloc, defs) {
         Ok(mut desk) => {
-            let end = session(alloc, &mut desk, input, output);
+            let mut patience = Never::new();
+            let end = session(&(), alloc, &mut desk, input, output, &mut patience);
             let _history = desk.history();
             status(end)
         }
@@ -114,6 +115,7 @@ fn status(end: SessionEnd) -> u8
         SessionEnd::TooLong => 6,
         SessionEnd::ReadFault => 8,
         SessionEnd::WriteFault => 7,
+        SessionEnd::Worn(_) => 10,
         SessionEnd::Memory => 9,
     }
 }

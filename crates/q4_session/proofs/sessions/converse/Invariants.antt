@@ -2,19 +2,23 @@ use Rattle.std.proofs.Common.{◌≡◌, ℕ, Some, None}
 use Rattle.q4_flow.specs.Lines.{fuel}
 use Rattle.q4_machine.specs.History.{definitions_of}
 use Rattle.q4_machine.specs.Parts.{IsInOrder}
-use Rattle.q4_tool.proofs.Conversing.{Conversing}
-use Rattle.q4_tool.proofs.sessions.converse.Given as goal
+use Rattle.q4_session.proofs.Conversing.{Conversing}
+use Rattle.q4_session.proofs.sessions.converse.Given as goal
 
 -- The desk is in order, and the lines so far were answered.
 abbrev pub invariant-loop-desk : goal.invariant-loop-desk
 invariant-loop-desk g l = record {
   in_order : IsInOrder (g.K.Desk.seen l.desk) (g.K.Desk.caller l.desk) (g.K.Desk.current l.desk);
   caller : g.K.Desk.caller l.desk ≡ g.K.Desk.caller l.fn.desk;
+  limit : g.K.Desk.limit l.desk ≡ g.K.Desk.limit l.fn.desk;
   defined : definitions_of (g.K.Desk.seen l.desk) ≡ definitions_of (g.K.Desk.seen l.fn.desk);
   current : g.K.Desk.current l.desk ≡ g.K.Desk.current l.fn.desk;
   running : l.lines.stopped ≡ None;
-  so_far : (s : ℕ) → g.K.Desk.current l.fn.desk ≡ Some s → Conversing (definitions_of (g.K.Desk.seen l.fn.desk)) (g.K.Desk.caller l.fn.desk) s (g.K.Desk.seen l.fn.desk) (g.K.Desk.seen l.desk)
-      (g.S.Source.left l.fn.source) (g.S.Source.left l.source) l.lines.pending (g.W.Sink.written l.fn.sink) (g.W.Sink.written l.sink);
+  so_far : (s : ℕ) → g.K.Desk.current l.fn.desk ≡ Some s → Conversing
+      (record { defs = definitions_of (g.K.Desk.seen l.fn.desk); limit = g.K.Desk.limit l.fn.desk; caller = g.K.Desk.caller l.fn.desk; session = s })
+      (record { seen = g.K.Desk.seen l.fn.desk; left = g.S.Source.left l.fn.source; written = g.W.Sink.written l.fn.sink; patience = g.P.Patience.state l.fn.patience })
+      (record { seen = g.K.Desk.seen l.desk; left = g.S.Source.left l.source; written = g.W.Sink.written l.sink; patience = g.P.Patience.state l.patience })
+      l.lines.pending;
   read_stayed : g.S.Source.faults l.source ≡ g.S.Source.faults l.fn.source;
   stayed : g.W.Sink.faults l.sink ≡ g.W.Sink.faults l.fn.sink;
 }

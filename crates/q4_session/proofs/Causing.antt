@@ -1,0 +1,18 @@
+-- No fault was counted where none came.
+use Rattle.std.proofs.Common.{◌≡◌, ◌⊎◌, ℕ, inl, inr}
+use Rattle.q4_flow.specs.declared.lines.LineEnd.TheVariants as line
+use Rattle.q4_session.specs.declared.answering.Answered.TheVariants as answered
+use Rattle.q4_session.specs.Answering.{TellCause}
+
+stays_or : (now before : ℕ) → (now ≡ before) ⊎ (answered.Next ≡ answered.WriteFault) → now ≡ before
+stays_or now before (inl same) = same
+stays_or now before (inr other) = cc other
+
+-- the session goes on, so no write failed
+pub stays_at_next : (before now : ℕ) → TellCause before now answered.Next → now ≡ before
+stays_at_next before now cause = stays_or now before cause.stayed
+
+-- a line was found, so no read failed
+pub stays_at_line : (before now : ℕ) → (now ≡ before) ⊎ (line.Line ≡ line.ReadFault) → now ≡ before
+stays_at_line before now (inl same) = same
+stays_at_line before now (inr other) = cc other

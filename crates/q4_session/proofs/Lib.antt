@@ -1,0 +1,8 @@
+pub mod Obeying
+pub mod Showing
+pub mod Spelling
+pub mod Completing
+pub mod Conversing
+pub mod Causing
+pub mod Opening
+pub mod Standing

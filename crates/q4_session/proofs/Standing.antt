@@ -1,0 +1,122 @@
+-- What was answered stands settled, whatever comes behind it.
+use Rattle.std.proofs.Common.{◌≡◌, ◌++◌, ◌∷◌, ◌∙◌, ◌<◌, [], List, ℕ, Option, None, Some, Result, Ok, Err, length, refl, sym, ap, subst, arith, append_assoc}
+use Rattle.std.specs.List.{Any}
+use Rattle.std.proofs.Math.ListN.{get_or-append}
+use Rattle.std.proofs.lemmas.List.{length-append}
+use Rattle.q4_machine.specs.declared.entry.Entry.{Entry}
+use Rattle.q4_machine.specs.declared.entry.Call.{Call}
+use Rattle.q4_machine.specs.declared.entry.Call.TheVariants.{Sync}
+use Rattle.q4_machine.specs.History.{IsSettled}
+use Rattle.q4_machine.specs.Parts.{Answer, Replied, WantsMemory, Worn, IsPart}
+use Rattle.q4_machine.specs.Patience.{PatienceState}
+use Rattle.q4_proto.specs.declared.command.Command.{Command}
+use Rattle.q4_proto.specs.declared.command.CommandFault.{CommandFault}
+use Rattle.q4_proto.specs.Commands.{Reads}
+use Rattle.q4_session.specs.Exchanges.{Client, Exchange, Obeys, Does, IsExchange, AreExchanges, call_of, answer_outcome, grown_by}
+use Rattle.q4_session.specs.Standing.{IsGranted, IsDone}
+
+head_is : {X : Type 0} (x y : X) (xs ys : List X) → x ∷ xs ≡ y ∷ ys → x ≡ y
+head_is x y xs ys is = cc is
+
+tail_is : {X : Type 0} (x y : X) (xs ys : List X) → x ∷ xs ≡ y ∷ ys → xs ≡ ys
+tail_is x y xs ys is = cc is
+
+-- ## A settled place stays settled
+
+-- a cut inside the front of a list is one of the front
+record CutInside {X : Type 0} (xs more before : List X) (e : X) (later : List X) : Type 0 where
+  rest : List X
+  front : xs ≡ before ++ e ∷ rest
+  back : later ≡ rest ++ more
+
+cut_inside : {X : Type 0} (xs more before : List X) (e : X) (later : List X) → xs ++ more ≡ before ++ e ∷ later → length before < length xs → CutInside xs more before e later
+cut_inside [] more before e later is short = absurd (omega arith)
+cut_inside (x ∷ xs) more [] e later is short =
+    record { rest = xs; front = ap (λ (y : _). y ∷ xs) (head_is x e (xs ++ more) later is); back = sym (tail_is x e (xs ++ more) later is) }
+cut_inside (x ∷ xs) more (y ∷ before) e later is short =
+    let shorter : length before < length xs = omega arith in
+    let inside = cut_inside xs more before e later (tail_is x y (xs ++ more) (before ++ e ∷ later) is) shorter in
+    record { rest = inside.rest; front = ap (λ (z : _). z ∷ xs) (head_is x y (xs ++ more) (before ++ e ∷ later) is) ∙ ap (λ (zs : List _). y ∷ zs) inside.front; back = inside.back }
+
+any_more : (xs more : List Entry) → Any (λ (x : Entry). x.call ≡ Sync) xs → Any (λ (x : Entry). x.call ≡ Sync) (xs ++ more)
+any_more xs more (k, x, inside, is, sync) =
+    let size = length-append xs more in
+    (k, x, omega (arith, inside, size), get_or-append xs more x k inside ∙ is, sync)
+
+settled_more : (history more : List Entry) (place : ℕ) → place < length history → IsSettled history place → IsSettled (history ++ more) place
+settled_more history more place inside settled before e later cut up_to change =
+    let short : length before < length history = omega arith in
+    let here = cut_inside history more before e later cut short in
+    subst (λ (l : List Entry). Any (λ (x : Entry). x.call ≡ Sync) l) (sym here.back) (any_more here.rest more (settled before e here.rest here.front up_to change))
+
+-- ## The entry of one line
+
+-- the same of a line in the history that it left
+part_done : (client : Client) (before : List Entry) (exchange : Exchange) (command : Command) (call : Call) (answer : Answer) → Reads client.defs exchange.line (Ok command) → call_of command ≡ Some call
+    → IsPart client.limit before exchange.grown client.caller client.session call answer → exchange.outcome ≡ answer_outcome answer → IsGranted (answer_outcome answer) → IsDone client (before ++ exchange.grown) exchange
+part_done client before exchange command call (Replied reply) reads asks part told granted =
+    let stands = part.cases in
+    let e : Entry = record { caller = client.caller; session = client.session; call = call; reply = reply } in
+    record {
+      command = command;
+      spells = reads;
+      before = before ++ stands.front;
+      entry = e;
+      later = stands.back;
+      cut = ap (λ (grown : List Entry). before ++ grown) stands.cut ∙ sym (append_assoc before stands.front (e ∷ stands.back));
+      caller = refl;
+      session = refl;
+      call = asks;
+      told = told;
+      settled = stands.settled;
+    }
+part_done client before exchange command call WantsMemory reads asks part told granted = absurd granted
+part_done client before exchange command call (Worn count) reads asks part told granted = absurd granted
+
+obeyed_done : (client : Client) (before : List Entry) (patience : PatienceState) (exchange : Exchange) (command : Command) (call : Option Call) → Reads client.defs exchange.line (Ok command) → call_of command ≡ call
+    → Obeys client before patience exchange command call → IsGranted exchange.outcome → IsDone client (before ++ exchange.grown) exchange
+obeyed_done client before patience exchange command (Some call) reads asks calls granted =
+    part_done client before exchange command call calls.answer reads asks calls.part calls.told (subst IsGranted calls.told granted)
+obeyed_done client before patience exchange command None reads asks says granted = absurd (subst IsGranted says.told granted)
+
+read_done : (client : Client) (before : List Entry) (patience : PatienceState) (exchange : Exchange) (read : Result Command CommandFault) → Reads client.defs exchange.line read
+    → Does client before patience exchange read → IsGranted exchange.outcome → IsDone client (before ++ exchange.grown) exchange
+read_done client before patience exchange (Ok command) reads does granted = obeyed_done client before patience exchange command (call_of command) reads refl does granted
+read_done client before patience exchange (Err fault) reads does granted = absurd (subst IsGranted does.told granted)
+
+line_done : (client : Client) (before : List Entry) (patience : PatienceState) (exchange : Exchange) → IsExchange client before patience exchange → IsGranted exchange.outcome → IsDone client (before ++ exchange.grown) exchange
+line_done client before patience exchange is granted = read_done client before patience exchange is.read is.reads is.does granted
+
+-- ## The entry of a line among others
+
+done_more : (client : Client) (history more : List Entry) (exchange : Exchange) → IsDone client history exchange → IsDone client (history ++ more) exchange
+done_more client history more exchange done =
+    let size : length done.before < length history = omega (arith, ap length done.cut, length-append done.before (done.entry ∷ done.later)) in
+    record {
+      command = done.command;
+      spells = done.spells;
+      before = done.before;
+      entry = done.entry;
+      later = done.later ++ more;
+      cut = ap (λ (h : List Entry). h ++ more) done.cut ∙ append_assoc done.before (done.entry ∷ done.later) more;
+      caller = done.caller;
+      session = done.session;
+      call = done.call;
+      told = done.told;
+      settled = settled_more history more (length done.before) size done.settled;
+    }
+
+done_as : (client : Client) (history history' : List Entry) (exchange : Exchange) → history ≡ history' → IsDone client history exchange → IsDone client history' exchange
+done_as client history history' exchange same done = subst (λ (h : List Entry). IsDone client h exchange) same done
+
+pub lines_done : (client : Client) (before : List Entry) (patience : PatienceState) (exchanges front back : List Exchange) (e : Exchange)
+    → AreExchanges client before patience exchanges → exchanges ≡ front ++ e ∷ back → IsGranted e.outcome → IsDone client (before ++ grown_by exchanges) e
+lines_done client before patience [] [] back e are cut granted = cc cut
+lines_done client before patience [] (x ∷ front) back e are cut granted = cc cut
+lines_done client before patience (x ∷ xs) [] back e are cut granted =
+    let same : x ≡ e = head_is x e xs back cut in
+    let done : IsDone client (before ++ x.grown) x = line_done client before patience x are.0 (subst (λ (y : Exchange). IsGranted y.outcome) (sym same) granted) in
+    subst (λ (y : Exchange). IsDone client (before ++ (x.grown ++ grown_by xs)) y) same (done_as client ((before ++ x.grown) ++ grown_by xs) (before ++ (x.grown ++ grown_by xs)) x (append_assoc before x.grown (grown_by xs)) (done_more client (before ++ x.grown) (grown_by xs) x done))
+lines_done client before patience (x ∷ xs) (y ∷ front) back e are cut granted =
+    done_as client ((before ++ x.grown) ++ grown_by xs) (before ++ (x.grown ++ grown_by xs)) e (append_assoc before x.grown (grown_by xs))
+    (lines_done client (before ++ x.grown) x.patience xs front back e are.1 (tail_is x y xs (front ++ e ∷ back) cut) granted)

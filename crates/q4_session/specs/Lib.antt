@@ -1,0 +1,4 @@
+pub mod Exchanges
+pub mod Sessions
+pub mod Answering
+pub mod Standing
