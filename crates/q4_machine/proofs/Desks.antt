@@ -4,6 +4,7 @@ use Rattle.std.proofs.lemmas.Bool.{cases_lt}
 use Rattle.std.proofs.lemmas.List.{length-append}
 use Rattle.std.proofs.lemmas.List.Elements.{All-nil, All-cons, All-head, All-tail}
 use Rattle.q4_value.specs.declared.row.Value.{Value}
+use Rattle.q4_def.specs.declared.table_def.TableDef.{TableDef}
 use Rattle.q4_machine.specs.declared.entry.Entry.{Entry}
 use Rattle.q4_machine.specs.declared.entry.Call.{Call}
 use Rattle.q4_machine.specs.declared.entry.Call.TheVariants.{Open, Insert, Look, End, Select, Close, Sync}
@@ -22,9 +23,9 @@ use Rattle.q4_machine.specs.declared.desk.InsertFault.{InsertFault}
 use Rattle.q4_machine.specs.declared.desk.InsertFault.TheVariants as insert_fault
 use Rattle.q4_machine.specs.Step.{look_reply}
 use Rattle.q4_machine.specs.History.{state_after, is_added, is_owner, is_change, IsSettled, SyncsAreOwed, IsOpenFor}
-use Rattle.q4_machine.specs.Parts.{calls_of, IsWorn, Answer, Replied, WantsMemory, is_owner_mode, ends_first, ending, HadRoom, WasWorn, IsPart, IsInOrder, Grows, IsOpened, IsClosed, fault_answer, insert_answer, wait_answer, select_answer}
+use Rattle.q4_machine.specs.Parts.{IsWorn, Answer, Replied, WantsMemory, is_owner_mode, ends_first, ending, HadRoom, WasWorn, IsPart, IsInOrder, Grows, IsOpened, IsClosed, fault_answer, insert_answer, wait_answer, select_answer}
 use Rattle.q4_machine.specs.Recorded.{Recorded, DeskState, entry, pushed, answered, IsInsertRefusal, entry_limit, open_sessions, ended_first, LookedUntil, HasRoom, HasBegun, IsSound}
-use Rattle.q4_machine.specs.OneDesk.{IsDesk}
+use Rattle.q4_machine.specs.OneDesk.{IsDesk, BeginsNew}
 use Rattle.q4_table.proofs.Lookup.{some_of}
 use Rattle.q4_machine.proofs.Openers.{opened_by_zero}
 use Rattle.q4_machine.proofs.Validity.{none_some}
@@ -350,6 +351,15 @@ waited r0 r1 r2 r3 current s list r owes is desk begun ended owed looked sound o
     let seen : r2.seen ≡ r0.seen ++ ending (is_owner_mode (mode_of (state_after r0.seen) s)) 0 s = ap (λ (x : Recorded). x.seen) ended ∙ ap (λ h. h ++ ending (is_owner_mode (mode_of (state_after h) s)) 0 s) begun.seen in
     waited_from r0 r1 r2 r3 current s list r (mode_of (state_after r0.seen) s) refl is desk begun seen (ap (λ (x : Recorded). x.room) ended) (subst (LookedUntil r2 r3 s (Look list) r) (owed ∙ ap is_owner mode) looked) sound open_for
 
+-- ## The first entry
+
+-- a history that grew begins as it did
+pub begins_grown : (defs : List TableDef) (old new : List Entry) (P : List Entry → Type 0) → BeginsNew defs old → Grows old new P → BeginsNew defs new
+begins_grown defs old new P begins grows = (begins.0 ++ grows.0, grows.1 ∙ ap (λ h. h ++ grows.0) begins.1)
+
+pub begins_same : (defs : List TableDef) (old new : List Entry) → BeginsNew defs old → new ≡ old → BeginsNew defs new
+begins_same defs old new begins same = (begins.0, same ∙ begins.1)
+
 -- ## As the desk's clauses say it
 
 pub part_for : (d : DeskState) (seen : List Entry) (current : Option ℕ) (session : ℕ) (seen' : List Entry) (call : Call) (answer : Answer) → record { seen = seen; current = current } ≡ d → current ≡ Some session
@@ -388,7 +398,7 @@ opened_desk r0 r1 r2 s desk begun first sound open_for =
     let worn = not_worn h begun.fresh in
     let settled = λ (place : ℕ). subst (λ x. IsSettled x place) (sym grew) (settled_push h a desk.settled refl place) in (
       desk_of r2 (Some s) s refl sound open_for settled (subst SyncsAreOwed (sym grew) (owed_push h a desk.in_order.owed (λ e. cc e)))
-      (omega (arith, size, sessions, start, same_room, begun.room.0), omega (arith, size, sessions, start, begun.room.1)) (omega (arith, size, sessions, worn)),
+          (omega (arith, size, sessions, start, same_room, begun.room.0), omega (arith, size, sessions, start, begun.room.1)) (omega (arith, size, sessions, worn)),
       (a ∷ [], grew, record { front = []; back = []; cut = refl; none_front = refl; none_back = refl; room = subst (λ x. IsWorn entry_limit x → ⊥) (sym (append-nil h)) begun.fresh }),
     )
 

@@ -143,9 +143,9 @@ opener_zero : (history : List Entry) (k : ℕ) → All (λ (e : Entry). e.caller
 opener_zero [] k by_zero some = absurd (some refl)
 opener_zero (e ∷ es) k by_zero some =
     zero_from (opens_session e.call && e.session == k) e.caller (opener es k) (All-head (λ (x : Entry). x.caller ≡ 0) e es by_zero) some (opener_zero es k (All-tail (λ (x : Entry). x.caller ≡ 0) e es by_zero)) where
-  zero_from : (b : Bool) (x : ℕ) (o : Option ℕ) → x ≡ 0 → cond b (Some x) o ≢ None → (o ≢ None → o ≡ Some 0) → cond b (Some x) o ≡ Some 0
-  zero_from true x o is some later = ap Some is
-  zero_from false x o is some later = later some
+      zero_from : (b : Bool) (x : ℕ) (o : Option ℕ) → x ≡ 0 → cond b (Some x) o ≢ None → (o ≢ None → o ≡ Some 0) → cond b (Some x) o ≡ Some 0
+      zero_from true x o is some later = ap Some is
+      zero_from false x o is some later = later some
 
 -- in a history of caller 0 that caller opened each open session
 pub opened_by_zero : (history : List Entry) → IsLegal history → All (λ (e : Entry). e.caller ≡ 0) history → (k : ℕ) → mode_of (state_after history) k ≢ None → opener history k ≡ Some 0

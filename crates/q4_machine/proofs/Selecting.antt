@@ -1,5 +1,5 @@
 -- Going over the rows of a table by rising numbers.
-use Rattle.std.proofs.Common.{◌≡◌, ◌≢◌, ◌==◌, ◌<◌, ◌≤◌, ◌+◌, ◌++◌, ◌∷◌, ◌∙◌, ◌⊎◌, [], List, ℕ, Bool, true, false, cond, not, Option, Some, None, Result, Ok, Err, IfOk, IsSome, map, filter, find, take, length, is_none, nat_le, unwrap_or, refl, sym, ap, subst, arith, inl, inr, append-nil}
+use Rattle.std.proofs.Common.{◌≡◌, ◌==◌, ◌<◌, ◌≤◌, ◌+◌, ◌++◌, ◌∷◌, ◌∙◌, [], List, ℕ, Bool, true, false, cond, not, Option, Some, None, Result, Ok, Err, IfOk, IsSome, map, filter, find, take, length, is_none, nat_le, refl, sym, ap, subst, arith, inl, inr, append-nil}
 use Rattle.std.specs.Option.{option_map}
 use Rattle.std.specs.Prelude.{option_and_then}
 use Rattle.std.proofs.Math.Seq.{take-append_seam}
@@ -13,7 +13,7 @@ use Rattle.q4_table.specs.declared.rows.StoredRow.{StoredRow}
 use Rattle.q4_table.specs.Rows.{row_in, values_in, owner_in, least_from}
 use Rattle.q4_table.specs.Valid.{RiseBelow}
 use Rattle.q4_table.proofs.Lookup.{some_of, found_key}
-use Rattle.q4_table.proofs.Rising.{least_found, none_below}
+use Rattle.q4_table.proofs.Rising.{least_found}
 use Rattle.q4_machine.specs.declared.shown.NumberedRow.{NumberedRow}
 use Rattle.q4_machine.specs.declared.session.SessionMode.TheVariants.{Owner}
 use Rattle.q4_machine.specs.declared.entry.Call.TheVariants.{Select}

@@ -1,5 +1,5 @@
 -- Each step leads from a valid machine to a valid one.
-use Rattle.std.proofs.Common.{◌≡◌, ◌≢◌, ◌==◌, ◌<◌, ◌+◌, ◌∷◌, ◌∙◌, [], List, ℕ, not, Option, Some, None, map, length, unwrap_or, refl, sym, ap, subst, arith, inl, inr, get_or-set_same, get_or-set_other}
+use Rattle.std.proofs.Common.{◌≡◌, ◌≢◌, ◌==◌, ◌<◌, ◌+◌, ◌∷◌, ◌∙◌, [], List, ℕ, not, Option, Some, None, map, length, refl, sym, ap, subst, arith, inl, inr, get_or-set_same, get_or-set_other}
 use Rattle.std.specs.Option.{option_map, ForSome}
 use Rattle.std.specs.Prelude.{option_and_then}
 use Rattle.std.proofs.Math.ListN.{get_or-eq_default}
@@ -64,9 +64,6 @@ owned_inside m t n s is = elim (cases_lt t (length m.tables)) [
 
 pub agrees : (m : MachineState) → IsValid m → Agrees (mode_of m) (owner_at m)
 agrees m valid = record { owns = valid.owns; owned = valid.owned }
-
-some_mode : (x y : SessionMode) → Some x ≡ Some y → x ≡ y
-some_mode x y is = ap (λ o. unwrap_or o x) is
 
 pub not_owner : OwnsNothing (Some NonOwner)
 not_owner = λ t n is. cc is

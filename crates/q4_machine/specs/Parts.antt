@@ -92,13 +92,23 @@ pub record WasWorn (limit : ℕ) (before grown : List Entry) (count : ℕ) : Typ
   pub count_is : count ≡ length (before ++ start)
   pub worn : IsWorn limit (before ++ start)
 
--- The own entry stands where there is a reply. Else there is none, but where the history was full a look may have left
--- its end.
+-- A look left its end in this part of the history, settled, and nothing else.
+pub record LeftEnd (before start grown : List Entry) (caller session : ℕ) (call : Call) : Type 0 where
+  pub front : List Entry
+  pub back : List Entry
+  pub ended : Entry
+  pub cut : start ≡ front ++ ended ∷ back
+  pub first : first_calls before caller session call ≡ ended ∷ []
+  pub alone : calls_of caller grown ≡ ended ∷ []
+  pub settled : IsSettled (before ++ start) (length (before ++ front))
+
+-- The own entry stands where there is a reply. Else there is none, but where the history was full after a look had paused
+-- it has left its end.
 abbrev pub Cases : ℕ → List Entry → List Entry → ℕ → ℕ → Call → Answer → Type 0
 Cases limit before grown caller session call (Replied reply) = Stands limit before grown caller session call reply
 Cases limit before grown caller session call WantsMemory = calls_of caller grown ≡ []
 Cases limit before grown caller session call (Worn count) =
-    WasWorn limit before grown count × ((calls_of caller grown ≡ []) ⊎ (calls_of caller grown ≡ first_calls before caller session call))
+    (worn : WasWorn limit before grown count) × ((calls_of caller grown ≡ []) ⊎ LeftEnd before worn.start grown caller session call)
 
 -- The part of one call: what the history grew by while it ran. The caller's entries there are of its session.
 pub record IsPart (limit : ℕ) (before grown : List Entry) (caller session : ℕ) (call : Call) (answer : Answer) : Type 0 where
@@ -181,8 +191,9 @@ IsClosed caller s grown = of_caller caller grown ≡ record { caller = caller; s
 -- ## What a wait makes of its patience
 
 -- Where it was answered, the patience was started once, with these seconds, and asked; where the answer is that nothing
--- was found, the patience told that the time was over. Counts do not fall.
+-- was found, the patience told that the time was over.
 pub record Waits (before now : PatienceState) (seconds : ℕ) (answer : Answer) : Type 0 where
+  pub given : now.given ≡ before.given
   pub started : IsSome (replied answer) → (now.starts ≡ counted before.starts) × (now.limit ≡ seconds)
   pub asked : IsSome (replied answer) → Rose before.asks now.asks
   pub spent : answer ≡ Replied reply.Nothing → Rose before.spent now.spent

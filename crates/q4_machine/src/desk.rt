@@ -157,7 +157,8 @@ pub trait Desk {
             IsClosed (caller self.old) s grown) };
 }
 
-/// A desk that serves one thread with many sessions, of which one at most is the current one.
+/// A desk that serves one thread with many sessions, of which one at most is the current one. All open sessions are those
+/// of the desk's caller.
 pub trait Seats: Desk {
     /// Makes this session the current one, where it is open; else the current one stays.
     fn choose(&mut self, session: u64) -> bool

@@ -243,7 +243,8 @@ impl Machine {
 
     /// How many sessions are open.
     pub fn sessions(&self) -> u64
-        ensures { result ≡ length self.now.sessions }
+        ensures count { result ≡ length self.now.sessions }
+        ensures valid { IsValid self.now }
     {
         self.sessions.len() as u64
     }
@@ -257,8 +258,8 @@ impl Machine {
             SessionMode::NonOwner => remove_session(&mut self.sessions, session),
             SessionMode::Empty => remove_session(&mut self.sessions, session),
             SessionMode::Owner(place, number) => {
-                let opening = &mut self.tables[place as usize];
-                opening.table.release(number);
+                let owned = &mut self.tables[place as usize];
+                owned.table.release(number);
                 remove_session(&mut self.sessions, session);
             }
         }

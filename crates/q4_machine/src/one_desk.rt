@@ -7,7 +7,7 @@ ghost use Rattle.q4_machine.specs.Parts.{Replied, mode_answer, row_answer};
 ghost use Rattle.q4_machine.specs.History.{state_after, definitions_of, is_owner, IsOpenFor, IsSettled, SyncsAreOwed};
 ghost use Rattle.q4_machine.specs.Patience.{Looked};
 ghost use Rattle.q4_machine.specs.Recorded.{HasRoom, IsSound, entry_limit, ended_first, LookedUntil};
-ghost use Rattle.q4_machine.specs.OneDesk.{IsNew};
+ghost use Rattle.q4_machine.specs.OneDesk.{IsNew, BeginsNew};
 
 use crate::recorded::RecordedMachine;
 use crate::{
@@ -63,7 +63,8 @@ impl OneDesk {
     pub fn history(&self) -> &[Entry]
         ensures seen { result.now ≡ self.now.seen }
 
-        // It is legal, and all of it is by caller 0.
+        // It begins with the empty tables of its definitions. It is legal, and all of it is by caller 0.
+        ensures begins { BeginsNew (definitions_of result.now) result.now }
         ensures sound { IsSound result.now }
         ensures settled { (place : ℕ) → IsSettled result.now place }
         ensures owed { SyncsAreOwed result.now }

@@ -1,11 +1,11 @@
-ghost use Rattle.std.specs.Prelude.{◌≡◌};
+ghost use Rattle.std.specs.Prelude.{◌≡◌, Some};
 ghost use Rattle.q4_machine.specs.Patience.{PatienceState, Starts, Asked};
 
 use std::marker::Model;
 
 /// How long a wait goes on: it is started once, and asked before each look whether the time is over.
 pub trait Patience {
-    /// The counts of its calls, and the seconds of the last `start`.
+    /// The counts of its calls, the seconds of the last `start`, and its turns.
     ghost state: { Self → PatienceState };
 
     /// Begins a wait of so many seconds.
@@ -42,12 +42,12 @@ pub struct Never {
 impl Model for Never {
     ghost Value = { PatienceState };
 
-    ghost view = { λ p. record { starts = p.counts.starts; limit = p.counts.limit; spent = p.counts.spent; asks = p.counts.asks; turns = 0 } };
+    ghost view = { λ p. record { starts = p.counts.starts; limit = p.counts.limit; spent = p.counts.spent; asks = p.counts.asks; turns = 0; given = Some 0 } };
 }
 
 impl Never {
     pub fn new() -> Never
-        ensures { result ≡ record { starts = 0; limit = 0; spent = 0; asks = 0; turns = 0 } }
+        ensures { result ≡ record { starts = 0; limit = 0; spent = 0; asks = 0; turns = 0; given = Some 0 } }
     {
         Never { counts: NO_CALL }
     }
@@ -77,16 +77,14 @@ pub struct Turns {
 }
 
 impl Model for Turns {
-    ghost use Rattle.q4_machine.specs.Patience.{TurnsState};
+    ghost Value = { PatienceState };
 
-    ghost Value = { TurnsState };
-
-    ghost view = { λ p. record { turns = p.turns; state = record { starts = p.counts.starts; limit = p.counts.limit; spent = p.counts.spent; asks = p.counts.asks; turns = p.left } } };
+    ghost view = { λ p. record { starts = p.counts.starts; limit = p.counts.limit; spent = p.counts.spent; asks = p.counts.asks; turns = p.left; given = Some p.turns } };
 }
 
 impl Turns {
     pub fn new(turns: u64) -> Turns
-        ensures { result ≡ record { turns = turns; state = record { starts = 0; limit = 0; spent = 0; asks = 0; turns = turns } } }
+        ensures { result ≡ record { starts = 0; limit = 0; spent = 0; asks = 0; turns = turns; given = Some turns } }
     {
         Turns {
             counts: NO_CALL,
@@ -97,7 +95,7 @@ impl Turns {
 }
 
 impl Patience for Turns {
-    ghost state = { λ p. p.state };
+    ghost state = { λ p. p };
 
     fn start(&mut self, seconds: u32) {
         self.counts.starts = self.counts.starts.saturating_add(1);

@@ -96,16 +96,65 @@ enum Ask {
     Insert(u32, &'static [Cell]),
     Wait(&'static [(u32, &'static str)]),
     End,
+    Abort,
+    RowId,
+    // The place of the table, from 0, and how many rows at most.
+    Select(u32, u32),
 }
 
-use Ask::{End, Insert, Wait};
+use Ask::{Abort as Give, End, Insert, RowId, Select, Wait};
 
-fn insert<K: Desk>(rt: &impl Abort, desk: &mut K, place: u32, row: Row) -> Reply
+// What the desk has to answer. Of rows that are shown it has the numbers, and how many values they have together.
+#[derive(Clone, Copy, Debug, PartialEq, Eq)]
+enum Told {
+    Done,
+    Session(u64),
+    Added(u64),
+    Found(u32),
+    Nothing,
+    Number(u64),
+    Shown(&'static [u64], usize),
+    NotOwner,
+    NoRow,
+    Bytes(u64),
+}
+
+fn are_numbers(rows: &Rows, numbers: &[u64], values: usize) -> bool {
+    let mut sum: usize = 0;
+    for row in rows.as_slice() {
+        sum = sum.saturating_add(row.row.len());
+    }
+    sum == values
+        && rows.as_slice().len() == numbers.len()
+        && rows
+            .as_slice()
+            .iter()
+            .zip(numbers)
+            .all(|(row, number)| row.number == *number)
+}
+
+fn is_told(reply: &Reply, told: Told) -> bool {
+    match (reply, told) {
+        (Reply::Done, Told::Done) => true,
+        (Reply::Session(x), Told::Session(y)) => *x == y,
+        (Reply::Added(x), Told::Added(y)) => *x == y,
+        (Reply::Found(x), Told::Found(y)) => *x == y,
+        (Reply::Nothing, Told::Nothing) => true,
+        (Reply::Number(x), Told::Number(y)) => *x == y,
+        (Reply::Shown(rows), Told::Shown(numbers, values)) => are_numbers(rows, numbers, values),
+        (Reply::Refused(Refusal::NotOwner), Told::NotOwner) => true,
+        (Reply::Refused(Refusal::NoRow), Told::NoRow) => true,
+        (Reply::Refused(Refusal::Bytes(x)), Told::Bytes(y)) => *x == y,
+        _ => false,
+    }
+}
+
+fn insert<K: Desk<Leave = ()>>(rt: &impl Abort, desk: &mut K, place: u32, row: Row) -> Reply
     requires { IsSome (K.current desk.old) }
     ensures { K.current desk.new ≡ K.current desk.old }
 {
     let row = row_for(rt, desk.defs(), place, row);
-    match desk.insert(place, row) {
+    match desk.insert(&(), place, row) {
         Ok(Added::New(number)) => Reply::Added(number),
         Ok(Added::Seen(mark)) => Reply::Seen(mark),
         Err(InsertFault::Spent) => Reply::Refused(Refusal::Spent),
@@ -115,59 +164,90 @@ fn insert<K: Desk>(rt: &impl Abort, desk: &mut K, place: u32, row: Row) -> Reply
     }
 }
 
-fn wait<K: Desk>(rt: &impl Abort, alloc: Global, desk: &mut K, entries: &[(u32, &str)]) -> Reply
+fn wait<K: Desk<Leave = ()>>(
+    rt: &impl Abort,
+    alloc: Global,
+    desk: &mut K,
+    entries: &[(u32, &str)],
+) -> Reply
     requires { IsSome (K.current desk.old) }
     ensures { K.current desk.new ≡ K.current desk.old }
 {
     let list = list_of(rt, alloc, desk.defs(), entries);
-    match desk.wait(&list) {
+    let mut patience = Never::new();
+    match desk.wait(&(), &list, 60, &mut patience) {
         Ok(Some(place)) => Reply::Found(place),
         Ok(None) => Reply::Nothing,
         Err(_) => panic!(rt; "memory"),
     }
 }
 
-fn end<K: Desk>(rt: &impl Abort, desk: &mut K) -> Reply
+fn left(rt: &impl Abort, answer: Result<(), ModeFault>) -> Reply {
+    match answer {
+        Ok(()) => Reply::Done,
+        Err(ModeFault::NotOwner) => Reply::Refused(Refusal::NotOwner),
+        Err(_) => panic!(rt; "memory"),
+    }
+}
+
+fn owned<K: Desk<Leave = ()>>(rt: &impl Abort, desk: &mut K) -> Reply
     requires { IsSome (K.current desk.old) }
     ensures { K.current desk.new ≡ K.current desk.old }
 {
-    match desk.end() {
-        Ok(()) => Reply::Done,
+    match desk.row_id(&()) {
+        Ok(number) => Reply::Number(number),
         Err(ModeFault::NotOwner) => Reply::Refused(Refusal::NotOwner),
+        Err(ModeFault::NoRow) => Reply::Refused(Refusal::NoRow),
         Err(ModeFault::Desk(_)) => panic!(rt; "memory"),
     }
 }
 
-fn asked<K: Desk>(rt: &impl Abort, alloc: Global, desk: &mut K, ask: Ask) -> Reply
+fn select<K: Desk<Leave = ()>>(rt: &impl Abort, desk: &mut K, place: u32, most: u32) -> Reply
+    requires { IsSome (K.current desk.old) }
+    ensures { K.current desk.new ≡ K.current desk.old }
+{
+    if place >= desk.defs().len() {
+        panic!(rt; "no such table");
+    }
+    match desk.select(&(), place, most) {
+        Ok(rows) => Reply::Shown(rows),
+        Err(_) => panic!(rt; "memory"),
+    }
+}
+
+fn asked<K: Desk<Leave = ()>>(rt: &impl Abort, alloc: Global, desk: &mut K, ask: Ask) -> Reply
     requires { IsSome (K.current desk.old) }
     ensures { K.current desk.new ≡ K.current desk.old }
 {
     match ask {
         Insert(place, cells) => insert(rt, desk, place, row_of(rt, alloc, cells)),
         Wait(entries) => wait(rt, alloc, desk, entries),
-        End => end(rt, desk),
+        End => left(rt, desk.end(&())),
+        Give => left(rt, desk.abort(&())),
+        RowId => owned(rt, desk),
+        Select(place, most) => select(rt, desk, place, most),
     }
 }
 
 // A whole session of this number: what it asks, and what it has to be answered.
-fn session<K: Desk>(
+fn session<K: Desk<Leave = ()>>(
     rt: &impl Abort,
     alloc: Global,
     desk: &mut K,
     number: u64,
-    asks: &[(Ask, Reply)],
+    asks: &[(Ask, Told)],
 )
     requires { K.current desk.old ≡ None }
     ensures { K.current desk.new ≡ None }
 {
-    match desk.open() {
+    match desk.open(&()) {
         Ok(session) => assert_eq!(rt; session, number),
         Err(_) => panic!(rt; "no session"),
     }
     for (ask, wanted) in asks {
-        assert_eq!(rt; asked(rt, alloc, desk, *ask), *wanted);
+        assert!(rt; is_told(&asked(rt, alloc, desk, *ask), *wanted));
     }
-    desk.close();
+    desk.close(&());
 }
 
 // The call, and the place of its table or the length of its list.
@@ -178,59 +258,68 @@ fn call_of(entry: &Entry) -> (&'static str, u64) {
         Call::Insert(place, _) => ("insert", u64::from(*place)),
         Call::Look(list) => ("look", list.as_slice().len() as u64),
         Call::End => ("end", 0),
+        Call::Abort => ("abort", 0),
+        Call::RowId => ("rowid", 0),
+        Call::Select(_, most) => ("select", u64::from(*most)),
         Call::Close => ("close", 0),
         Call::Sync => ("sync", 0),
     }
 }
 
-const NOT_OWNER: Reply = Reply::Refused(Refusal::NotOwner);
-
 // Two rows are added, the first is ended, and the second is owned at the close.
-const FIRST: [(Ask, Reply); 6] = [
-    (Insert(0, &[Number(7), Text("a")]), Reply::Added(1)),
-    (Insert(0, &[Number(-1), Text("")]), Reply::Added(2)),
-    (End, NOT_OWNER),
-    (Wait(&[(0, "")]), Reply::Found(1)),
-    (End, Reply::Done),
-    (Wait(&[(0, "")]), Reply::Found(1)),
+const FIRST: [(Ask, Told); 8] = [
+    (Insert(0, &[Number(7), Text("a")]), Told::Added(1)),
+    (Insert(0, &[Number(-1), Text("")]), Told::Added(2)),
+    (End, Told::NotOwner),
+    (Wait(&[(0, "")]), Told::Found(1)),
+    (RowId, Told::Number(1)),
+    (End, Told::Done),
+    (Wait(&[(0, "")]), Told::Found(1)),
+    (Select(0, 9), Told::Shown(&[2], 2)),
 ];
 
 // The row of the session before is taken again, and there is no other.
-const SECOND: [(Ask, Reply); 6] = [
-    (Wait(&[(0, "prio<0")]), Reply::Found(1)),
-    (Wait(&[(0, "")]), Reply::Nothing),
-    (Wait(&[(0, "")]), Reply::Nothing),
-    (Insert(0, &[Number(0), Text("b")]), Reply::Added(3)),
-    (End, Reply::Done),
-    (End, NOT_OWNER),
+const SECOND: [(Ask, Told); 8] = [
+    (Wait(&[(0, "prio<0")]), Told::Found(1)),
+    (Wait(&[(0, "")]), Told::Nothing),
+    (RowId, Told::NoRow),
+    (Wait(&[(0, "")]), Told::Nothing),
+    (Give, Told::Done),
+    (Insert(0, &[Number(0), Text("b")]), Told::Added(3)),
+    (Give, Told::NotOwner),
+    (End, Told::NotOwner),
 ];
 
 // The session, the call and the reply of each entry.
-const HISTORY: [(u64, &str, u64, Reply); 24] = [
-    (0, "opened", 1, Reply::Done),
-    (1, "open", 0, Reply::Session(1)),
-    (1, "insert", 0, Reply::Added(1)),
-    (1, "sync", 0, Reply::Done),
-    (1, "insert", 0, Reply::Added(2)),
-    (1, "sync", 0, Reply::Done),
-    (1, "end", 0, NOT_OWNER),
-    (1, "look", 1, Reply::Found(1)),
-    (1, "end", 0, Reply::Done),
-    (1, "sync", 0, Reply::Done),
-    (1, "look", 1, Reply::Found(1)),
-    (1, "close", 0, Reply::Done),
-    (2, "open", 0, Reply::Session(2)),
-    (2, "look", 1, Reply::Found(1)),
-    (2, "end", 0, Reply::Done),
-    (2, "look", 1, Reply::Nothing),
-    (2, "sync", 0, Reply::Done),
-    (2, "end", 0, Reply::Done),
-    (2, "look", 1, Reply::Nothing),
-    (2, "insert", 0, Reply::Added(3)),
-    (2, "sync", 0, Reply::Done),
-    (2, "end", 0, Reply::Done),
-    (2, "end", 0, NOT_OWNER),
-    (2, "close", 0, Reply::Done),
+const HISTORY: [(u64, &str, u64, Told); 28] = [
+    (0, "opened", 1, Told::Done),
+    (1, "open", 0, Told::Session(1)),
+    (1, "insert", 0, Told::Added(1)),
+    (1, "sync", 0, Told::Done),
+    (1, "insert", 0, Told::Added(2)),
+    (1, "sync", 0, Told::Done),
+    (1, "end", 0, Told::NotOwner),
+    (1, "look", 1, Told::Found(1)),
+    (1, "rowid", 0, Told::Number(1)),
+    (1, "end", 0, Told::Done),
+    (1, "sync", 0, Told::Done),
+    (1, "look", 1, Told::Found(1)),
+    (1, "select", 9, Told::Shown(&[2], 2)),
+    (1, "close", 0, Told::Done),
+    (2, "open", 0, Told::Session(2)),
+    (2, "look", 1, Told::Found(1)),
+    (2, "end", 0, Told::Done),
+    (2, "look", 1, Told::Nothing),
+    (2, "sync", 0, Told::Done),
+    (2, "rowid", 0, Told::NoRow),
+    (2, "end", 0, Told::Done),
+    (2, "look", 1, Told::Nothing),
+    (2, "abort", 0, Told::Done),
+    (2, "insert", 0, Told::Added(3)),
+    (2, "sync", 0, Told::Done),
+    (2, "abort", 0, Told::NotOwner),
+    (2, "end", 0, Told::NotOwner),
+    (2, "close", 0, Told::Done),
 ];
 
 #[test]
@@ -244,38 +333,38 @@ fn two_sessions(rt: HostRuntime) {
     assert_eq!(rt; desk.history().len(), HISTORY.len());
     for (entry, (session, call, number, reply)) in desk.history().iter().zip(&HISTORY) {
         assert_eq!(rt; call_of(entry), (*call, *number));
-        assert_eq!(rt; entry.reply, *reply);
+        assert!(rt; is_told(&entry.reply, *reply));
         assert_eq!(rt; (entry.caller, entry.session), (0, *session));
     }
 }
 
 // Which row each wait took shows in what is left for the later ones.
-const WAITS: [(Ask, Reply); 16] = [
-    (Insert(0, &[Number(1), Text("a")]), Reply::Added(1)),
-    (Insert(0, &[Number(9), Text("b")]), Reply::Added(2)),
-    (Insert(0, &[Number(5), Text("c")]), Reply::Added(3)),
-    (Insert(1, &[Text("x"), Number(4)]), Reply::Added(1)),
+const WAITS: [(Ask, Told); 16] = [
+    (Insert(0, &[Number(1), Text("a")]), Told::Added(1)),
+    (Insert(0, &[Number(9), Text("b")]), Told::Added(2)),
+    (Insert(0, &[Number(5), Text("c")]), Told::Added(3)),
+    (Insert(1, &[Text("x"), Number(4)]), Told::Added(1)),
     // Row 2 of `jobs`, the oldest that meets a condition of the list.
     (
         Wait(&[(0, "prio>9"), (1, "prio>=5"), (0, "prio>=5")]),
-        Reply::Found(3),
+        Told::Found(3),
     ),
-    (End, Reply::Done),
+    (End, Told::Done),
     // Row 3 of `jobs`, and no longer row 2.
-    (Wait(&[(0, "prio>=5")]), Reply::Found(1)),
+    (Wait(&[(0, "prio>=5")]), Told::Found(1)),
     // Row 1 of `hot`, though `jobs` has a row as well.
-    (Wait(&[(1, ""), (0, "")]), Reply::Found(1)),
+    (Wait(&[(1, ""), (0, "")]), Told::Found(1)),
     (
         Wait(&[(1, ""), (0, "prio>=5"), (0, "body='a'")]),
-        Reply::Found(3),
+        Told::Found(3),
     ),
-    (Insert(0, &[Number(7), Text("d")]), Reply::Added(4)),
-    (Wait(&[(0, "prio<7"), (1, "")]), Reply::Nothing),
-    (Wait(&[(0, "prio<7"), (0, "prio<8")]), Reply::Found(2)),
-    (Insert(1, &[Text("y"), Number(0)]), Reply::Added(2)),
-    (Wait(&[(0, ""), (1, "prio<1")]), Reply::Found(2)),
-    (Wait(&[]), Reply::Nothing),
-    (Wait(&[(0, ""), (1, "")]), Reply::Nothing),
+    (Insert(0, &[Number(7), Text("d")]), Told::Added(4)),
+    (Wait(&[(0, "prio<7"), (1, "")]), Told::Nothing),
+    (Wait(&[(0, "prio<7"), (0, "prio<8")]), Told::Found(2)),
+    (Insert(1, &[Text("y"), Number(0)]), Told::Added(2)),
+    (Wait(&[(0, ""), (1, "prio<1")]), Told::Found(2)),
+    (Wait(&[]), Told::Nothing),
+    (Wait(&[(0, ""), (1, "")]), Told::Nothing),
 ];
 
 #[test]
@@ -294,6 +383,148 @@ fn waits_over_two_tables(rt: HostRuntime) {
         }
     }
     assert_eq!(rt; tables.len(), 2);
+}
+
+// In non-owner mode a session sees the rows that nobody owns, in owner mode its own row, of that row's table alone.
+const SELECTS: [(Ask, Told); 18] = [
+    (Select(0, 9), Told::Shown(&[], 0)),
+    (Insert(0, &[Number(1), Text("a")]), Told::Added(1)),
+    (Insert(0, &[Number(9), Text("b")]), Told::Added(2)),
+    (Insert(0, &[Number(5), Text("c")]), Told::Added(3)),
+    (Insert(1, &[Text("x"), Number(4)]), Told::Added(1)),
+    (Select(0, 9), Told::Shown(&[1, 2, 3], 6)),
+    (Select(0, 3), Told::Shown(&[1, 2, 3], 6)),
+    (Select(0, 2), Told::Shown(&[1, 2], 4)),
+    (Select(0, 0), Told::Shown(&[], 0)),
+    (Wait(&[(0, "prio=9")]), Told::Found(1)),
+    (Select(0, 9), Told::Shown(&[2], 2)),
+    (Select(0, 0), Told::Shown(&[], 0)),
+    (Select(1, 9), Told::Shown(&[], 0)),
+    (Give, Told::Done),
+    (Select(0, 9), Told::Shown(&[1, 2, 3], 6)),
+    (Wait(&[(1, "prio>4")]), Told::Nothing),
+    (Select(1, 9), Told::Shown(&[], 0)),
+    (RowId, Told::NoRow),
+];
+
+#[test]
+fn selects(rt: HostRuntime) {
+    let alloc = rt.alloc();
+    let mut desk = OneDesk::new(alloc, defs_of(&rt, alloc, TWO_TABLES)).expect(&rt, "memory");
+    session(&rt, alloc, &mut desk, 1, &SELECTS);
+}
+
+// A wait with a patience of two turns, in owner mode with a row, that finds no other.
+fn wait_in_vain(rt: &impl Abort, alloc: Global, desk: &mut OneDesk, turns: u64)
+    requires { IsSome desk.old.current }
+    ensures { desk.new.current ≡ desk.old.current }
+{
+    let list = list_of(rt, alloc, desk.defs(), &[(0, "prio=1")]);
+    let mut patience = Turns::new(turns);
+    match desk.wait(&(), &list, 7, &mut patience) {
+        Ok(place) => assert_eq!(rt; place, None),
+        Err(_) => panic!(rt; "memory"),
+    }
+}
+
+// The end of a wait is synced before the first pause, or else behind the look.
+#[test]
+fn the_end_of_a_wait_is_synced_before_its_pause(rt: HostRuntime) {
+    let alloc = rt.alloc();
+    for (turns, wanted) in [(0, ["end", "look", "sync"]), (2, ["end", "sync", "look"])] {
+        let mut desk = OneDesk::new(alloc, defs_of(&rt, alloc, b"")).expect(&rt, "memory");
+        assert!(rt; desk.open(&()).is_ok());
+        let row = row_of(&rt, alloc, &[Number(2), Text("a")]);
+        assert!(rt; is_told(&insert(&rt, &mut desk, 0, row), Told::Added(1)));
+        assert!(rt; is_told(&wait(&rt, alloc, &mut desk, &[(0, "")]), Told::Found(1)));
+        wait_in_vain(&rt, alloc, &mut desk, turns);
+        desk.close(&());
+        let calls = ["opened", "open", "insert", "sync", "look"];
+        let behind = desk.history().iter().skip(5);
+        assert_eq!(rt; desk.history().len(), calls.len() + wanted.len() + 1);
+        for (entry, call) in desk.history().iter().zip(&calls) {
+            assert_eq!(rt; call_of(entry).0, *call);
+        }
+        for (entry, call) in behind.zip(&wanted) {
+            assert_eq!(rt; call_of(entry).0, *call);
+        }
+    }
+}
+
+// Each wait may be asked this often in vain, and then is told that its time is over.
+#[test]
+fn patience_of_turns(rt: HostRuntime) {
+    for turns in [0, 1, 3] {
+        let mut patience = Turns::new(turns);
+        for seconds in [0, 3_600] {
+            patience.start(seconds);
+            for _ in 0..turns {
+                assert!(rt; !patience.over());
+            }
+            assert!(rt; patience.over());
+            assert!(rt; patience.over());
+        }
+    }
+    let mut never = Never::new();
+    assert!(rt; never.over());
+    never.start(5);
+    assert!(rt; never.over());
+}
+
+// A session stands up, another sits down, and the first comes back to its row.
+#[test]
+fn seats(rt: HostRuntime) {
+    let alloc = rt.alloc();
+    let mut desk = OneDesk::new(alloc, defs_of(&rt, alloc, b"")).expect(&rt, "memory");
+    assert!(rt; !desk.choose(1));
+    assert!(rt; desk.open(&()).is_ok());
+    let row = row_of(&rt, alloc, &[Number(2), Text("a")]);
+    assert!(rt; is_told(&insert(&rt, &mut desk, 0, row), Told::Added(1)));
+    assert!(rt; is_told(&wait(&rt, alloc, &mut desk, &[(0, "")]), Told::Found(1)));
+    desk.stand_up();
+    assert!(rt; desk.open(&()).is_ok());
+    assert!(rt; is_told(&wait(&rt, alloc, &mut desk, &[(0, "")]), Told::Nothing));
+    assert!(rt; !desk.choose(3));
+    assert!(rt; is_told(&owned(&rt, &mut desk), Told::NoRow));
+    if !desk.choose(1) {
+        panic!(&rt; "session 1 is not open");
+    }
+    assert!(rt; is_told(&owned(&rt, &mut desk), Told::Number(1)));
+    desk.close(&());
+    assert!(rt; !desk.choose(1));
+    if !desk.choose(2) {
+        panic!(&rt; "session 2 is not open");
+    }
+    assert!(rt; is_told(&wait(&rt, alloc, &mut desk, &[(0, "")]), Told::Found(1)));
+    desk.close(&());
+}
+
+// Asks for the owned row as often as the history allows, and tells how often that was, and the count of the refusal.
+fn wear_out(rt: &impl Abort, desk: &mut OneDesk) -> (u32, u64)
+    requires { IsSome desk.old.current }
+    ensures { desk.new.current ≡ desk.old.current }
+{
+    for asked in 0..1_100_000 {
+        match desk.row_id(&()) {
+            Err(ModeFault::NotOwner) => {}
+            Err(ModeFault::Desk(DeskFault::Worn(count))) => return (asked, count),
+            _ => panic!(rt; "memory"),
+        }
+    }
+    panic!(rt; "no end")
+}
+
+// The limit counts the entries, the open sessions and four more. A close is always possible.
+#[test]
+fn a_history_is_full(rt: HostRuntime) {
+    let alloc = rt.alloc();
+    let mut desk = OneDesk::new(alloc, defs_of(&rt, alloc, b"")).expect(&rt, "memory");
+    assert!(rt; desk.open(&()).is_ok());
+    assert_eq!(rt; wear_out(&rt, &mut desk), (1_048_570, 1_048_572));
+    assert_eq!(rt; desk.history().len(), 1_048_572);
+    desk.close(&());
+    assert_eq!(rt; desk.history().len(), 1_048_573);
+    assert_eq!(rt; desk.open(&()), Err(DeskFault::Worn(1_048_573)));
 }
 
 const LETTERS: [u8; 65_535] = [b'x'; 65_535];
@@ -315,29 +546,22 @@ fn longest_row(rt: &impl Abort, alloc: Global) -> Row {
 }
 
 // 32 rows of 1,048,576 bytes are added, and then not even the smallest row. It has 16 empty texts of 4 bytes.
-fn fill<K: Desk>(rt: &impl Abort, alloc: Global, desk: &mut K)
+fn fill<K: Desk<Leave = ()>>(rt: &impl Abort, alloc: Global, desk: &mut K)
     requires { K.current desk.old ≡ None }
     ensures { K.current desk.new ≡ None }
 {
-    assert!(rt; desk.open().is_ok());
+    assert!(rt; desk.open(&()).is_ok());
     for number in 1..33 {
-        assert_eq!(rt;
-            insert(rt, desk, 0, longest_row(rt, alloc)),
-            Reply::Added(number)
-        );
+        let added = insert(rt, desk, 0, longest_row(rt, alloc));
+        assert!(rt; is_told(&added, Told::Added(number)));
     }
-    let refused = Reply::Refused(Refusal::Bytes(33_554_432));
-    assert_eq!(rt;
-        insert(rt, desk, 0, row_of(rt, alloc, &[Text(""); 16])),
-        refused
-    );
-    assert_eq!(rt; wait(rt, alloc, desk, &[(0, "")]), Reply::Found(1));
-    assert_eq!(rt; end(rt, desk), Reply::Done);
-    assert_eq!(rt;
-        insert(rt, desk, 0, longest_row(rt, alloc)),
-        Reply::Added(33)
-    );
-    desk.close();
+    let refused = insert(rt, desk, 0, row_of(rt, alloc, &[Text(""); 16]));
+    assert!(rt; is_told(&refused, Told::Bytes(33_554_432)));
+    assert!(rt; is_told(&wait(rt, alloc, desk, &[(0, "")]), Told::Found(1)));
+    assert!(rt; is_told(&left(rt, desk.end(&())), Told::Done));
+    let added = insert(rt, desk, 0, longest_row(rt, alloc));
+    assert!(rt; is_told(&added, Told::Added(33)));
+    desk.close(&());
 }
 
 #[test]
@@ -347,18 +571,18 @@ fn a_full_table_refuses(rt: HostRuntime) {
     fill(&rt, alloc, &mut desk);
     // Behind the opening, and 32 inserts with their syncs. The refusal needs no sync.
     let wanted = [
-        ("insert", Reply::Refused(Refusal::Bytes(33_554_432))),
-        ("look", Reply::Found(1)),
-        ("end", Reply::Done),
-        ("sync", Reply::Done),
-        ("insert", Reply::Added(33)),
-        ("sync", Reply::Done),
-        ("close", Reply::Done),
+        ("insert", Told::Bytes(33_554_432)),
+        ("look", Told::Found(1)),
+        ("end", Told::Done),
+        ("sync", Told::Done),
+        ("insert", Told::Added(33)),
+        ("sync", Told::Done),
+        ("close", Told::Done),
     ];
     assert_eq!(rt; desk.history().len(), 66 + wanted.len());
     for (entry, (call, reply)) in desk.history().iter().skip(66).zip(&wanted) {
         assert_eq!(rt; call_of(entry).0, *call);
-        assert_eq!(rt; entry.reply, *reply);
+        assert!(rt; is_told(&entry.reply, *reply));
     }
 }
 
@@ -444,9 +668,9 @@ fn add(rt: &impl Abort, alloc: Global, defs: &Defs, machine: &mut RecordedMachin
     requires { definitions_of machine.old.seen ≡ defs.now }
     ensures { definitions_of machine.new.seen ≡ defs.now }
 {
-    assert!(rt; machine.reserve(1).is_ok());
+    assert!(rt; machine.begin().is_ok());
     let session = machine.open().expect(rt, "memory");
-    assert!(rt; machine.reserve(1).is_ok());
+    assert!(rt; machine.begin().is_ok());
     let row = row_of(rt, alloc, &[Number(3), Text("a")]);
     let row = row_for(rt, defs, 0, row);
     let copy = row.copy(alloc).expect(rt, "memory");
@@ -464,11 +688,15 @@ fn look(
     ensures is_open { IsOpenFor machine.new.seen 0 result.0 }
     ensures defined { definitions_of machine.new.seen ≡ defs.now }
 {
-    assert!(rt; machine.reserve(1).is_ok());
+    assert!(rt; machine.begin().is_ok());
     let session = machine.open().expect(rt, "memory");
     assert!(rt; machine.mode(session) == SessionMode::NonOwner);
-    assert!(rt; machine.reserve(1).is_ok());
-    let _ = machine.look(session, list_of(rt, alloc, defs, &[(0, "")]));
+    assert!(rt; machine.begin().is_ok());
+    assert!(rt;
+        machine
+            .look(session, list_of(rt, alloc, defs, &[(0, "")]), true)
+            .is_ok()
+    );
     (session, machine.mode(session))
 }
 
@@ -482,7 +710,7 @@ fn look_and_close(
     ensures { definitions_of machine.new.seen ≡ defs.now }
 {
     let (session, mode) = look(rt, alloc, defs, machine);
-    assert!(rt; machine.reserve(1).is_ok());
+    assert!(rt; machine.begin().is_ok());
     machine.close(session);
     mode
 }

@@ -1,26 +1,21 @@
 -- A line that spells a command is not refused.
-use Rattle.std.proofs.Common.{◌≡◌, ◌≢◌, ◌==◌, ◌<◌, ◌≤◌, ◌+◌, ◌*◌, ◌^◌, ◌++◌, ◌∷◌, ◌∙◌, ◌⊎◌, [], List, ℕ, ℤ, zero, suc, pos, negsuc, Bool, true, false, Option, None, Some, Result, Ok, Err, All, map, length, take, drop, get_or, decimal, FitsSigned, refl, sym, ap, subst, arith, inl, inr, if◌then◌else◌, append-nil, unwrap_or}
+use Rattle.std.proofs.Common.{◌≡◌, ◌==◌, ◌<◌, ◌≤◌, ◌+◌, ◌*◌, ◌^◌, ◌∷◌, ◌∙◌, [], List, ℕ, ℤ, zero, suc, pos, negsuc, Option, None, Some, Ok, Err, All, map, length, get_or, decimal, FitsSigned, refl, sym, ap, subst, arith, if◌then◌else◌, unwrap_or}
 use Rattle.std.specs.Fmt.{signed_decimal}
 use Rattle.std.specs.Int.{w64}
 use Rattle.std.specs.Int.Digits.{digits_of, AllBelowBase}
-use Rattle.std.specs.List.{Contains, before_first, position_or_len}
-use Rattle.std.specs.Prelude.{slice_get}
-use Rattle.std.specs.Str.{IsUtf8}
-use Rattle.std.proofs.lemmas.Bool.{ne_eqb}
 use Rattle.std.proofs.lemmas.Fmt.{decimal_digit, decimal-digits_of}
 use Rattle.std.proofs.lemmas.Int.Digits.{all_below_base_digits_of}
-use Rattle.std.proofs.lemmas.List.{length-append, length-map, take_at}
-use Rattle.std.proofs.lemmas.List.Concat.{flat_map-cons}
+use Rattle.std.proofs.lemmas.List.{length-append, length-map}
 use Rattle.std.proofs.lemmas.List.Elements.{All-nil, All-cons, All-map, All-weaker}
-use Rattle.std.proofs.lemmas.List.Sums.{position_or_len_is, sum_by-cons}
+use Rattle.std.proofs.lemmas.List.Sums.{sum_by-cons}
 use Rattle.q4_value.specs.declared.row.Value.{Value}
 use Rattle.q4_value.specs.declared.row.Value.TheVariants.{Int, Word}
-use Rattle.q4_value.specs.Escape.{escaped, escaped_byte, IsFieldByte}
-use Rattle.q4_value.specs.Row.{kind_of, IsValue, IsRowOf, value_size, row_size}
+use Rattle.q4_value.specs.Escape.{escaped, IsFieldByte}
+use Rattle.q4_value.specs.Row.{kind_of, IsValue, value_size, row_size}
 use Rattle.q4_value.proofs.EscapeLaws.{escaped_once}
-use Rattle.q4_value.proofs.Runs.{IsNoBackslash, plain, plain_byte}
+use Rattle.q4_value.proofs.Runs.{IsNoBackslash, plain}
 use Rattle.q4_def.specs.declared.table_def.TableDef.{TableDef}
-use Rattle.q4_def.specs.Tables.{AreDefs, names_of}
+use Rattle.q4_def.specs.Tables.{AreDefs}
 use Rattle.q4_machine.specs.declared.looks.Listed.{Listed}
 use Rattle.q4_machine.specs.Definitions.{columns_at}
 use Rattle.q4_machine.proofs.Histories.{cons_head, cons_tail}

@@ -1,5 +1,5 @@
 -- Where the first `:` of an entry stands, in its text and in its field.
-use Rattle.std.proofs.Common.{◌≡◌, ◌≢◌, ◌==◌, ◌<◌, ◌≤◌, ◌+◌, ◌++◌, ◌∷◌, ◌∙◌, ◌⊎◌, [], List, ℕ, Bool, true, false, All, length, take, get_or, refl, sym, ap, subst, arith, inl, inr, if◌then◌else◌}
+use Rattle.std.proofs.Common.{◌≡◌, ◌==◌, ◌<◌, ◌++◌, ◌∷◌, ◌∙◌, [], List, ℕ, Bool, true, false, All, length, take, get_or, refl, sym, ap, subst, arith, inl, inr, if◌then◌else◌}
 use Rattle.std.specs.List.{before_first, after_first, position_or_len}
 use Rattle.std.proofs.Math.Seq.{get_or-append_seam}
 use Rattle.std.proofs.Math.ListN.{get_or-append}

@@ -1,5 +1,5 @@
 -- The entries of a wait: their names and texts, and that each reads as a condition or has a fault.
-use Rattle.std.proofs.Common.{◌≡◌, ◌≢◌, ◌==◌, ◌+◌, ◌++◌, ◌∷◌, ◌∙◌, ◌⊎◌, [], List, ℕ, Some, All, length, drop, refl, sym, ap, subst, arith, inl, inr}
+use Rattle.std.proofs.Common.{◌≡◌, ◌≢◌, ◌++◌, ◌∷◌, ◌∙◌, ◌⊎◌, [], List, ℕ, Some, All, length, drop, refl, sym, ap, subst, arith, inl, inr}
 use Rattle.std.specs.List.{before_first}
 use Rattle.std.specs.Prelude.{slice_get}
 use Rattle.std.proofs.lemmas.List.{length-append, drop_at}

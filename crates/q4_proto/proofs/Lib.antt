@@ -10,3 +10,6 @@ pub mod Apart
 pub mod Writing
 pub mod Once
 pub mod OneFault
+pub mod Deciding
+pub mod Judging
+pub mod Answered

@@ -1,5 +1,5 @@
 -- Names of tables, as fields spell them.
-use Rattle.std.proofs.Common.{◌≡◌, ◌≢◌, ◌<◌, ◌≤◌, ◌∙◌, List, ℕ, Option, Some, None, All, map, length, get_or, refl, sym, ap, subst, arith, inl, inr}
+use Rattle.std.proofs.Common.{◌≡◌, ◌<◌, ◌∙◌, List, ℕ, Some, None, All, length, get_or, sym, ap, subst, arith, inl, inr}
 use Rattle.std.specs.List.{Contains}
 use Rattle.std.specs.Option.{option_map}
 use Rattle.std.specs.Prelude.{slice_get}
@@ -7,7 +7,6 @@ use Rattle.std.proofs.lemmas.Bool.{cases_order}
 use Rattle.std.proofs.lemmas.List.{length-map, get_or-map}
 use Rattle.std.proofs.lemmas.List.Elements.{All-map, All-weaker}
 use Rattle.std.proofs.lemmas.Option.{slice_get_cases, slice_get-map, get_or_from_slice_get}
-use Rattle.q4_value.specs.declared.column.Column.{Column}
 use Rattle.q4_value.specs.Escape.{escaped, IsFieldByte}
 use Rattle.q4_value.specs.Names.{IsNameByte, IsName}
 use Rattle.q4_value.proofs.Runs.{IsNoBackslash, plain}

@@ -1,10 +1,8 @@
 -- A line has one fault at most.
-use Rattle.std.proofs.Common.{◌≡◌, ◌≢◌, ◌<◌, ◌+◌, ◌++◌, ◌∷◌, ◌∙◌, ◌⊎◌, [], List, ℕ, Some, Result, Ok, Err, All, length, refl, sym, ap, subst, arith, inl, inr}
+use Rattle.std.proofs.Common.{◌≡◌, ◌≢◌, ◌<◌, ◌+◌, ◌∷◌, ◌∙◌, ◌⊎◌, List, ℕ, Some, Err, length, refl, sym, ap, subst, arith, inl, inr}
 use Rattle.std.specs.List.{zip}
 use Rattle.std.specs.Str.{IsUtf8}
 use Rattle.std.proofs.lemmas.Bool.{cases_order}
-use Rattle.q4_value.specs.declared.column.Column.{Column}
-use Rattle.q4_value.specs.Escape.{escaped}
 use Rattle.q4_value.proofs.EscapeLaws.{escaped_once}
 use Rattle.q4_value.proofs.Rows.{append_same, place_within}
 use Rattle.q4_cond.specs.declared.fault.CondFault.{CondFault}

@@ -1,9 +1,8 @@
 -- How the fields of an insert are refused: no earlier check stands.
-use Rattle.std.proofs.Common.{◌≡◌, ◌≢◌, ◌<◌, ◌≤◌, ◌+◌, ◌++◌, ◌∷◌, ◌∙◌, [], List, ℕ, Some, Result, Ok, Err, All, map, length, take, refl, sym, ap, subst, arith, drop}
-use Rattle.std.specs.List.{zip, Contains}
+use Rattle.std.proofs.Common.{◌≡◌, ◌≢◌, ◌<◌, ◌≤◌, ◌∷◌, ◌∙◌, [], List, ℕ, Some, Err, All, map, length, take, refl, sym, ap, subst, arith}
+use Rattle.std.specs.List.{zip}
 use Rattle.std.specs.Prelude.{slice_get}
 use Rattle.std.proofs.lemmas.List.Elements.{All-nil, All-cons}
-use Rattle.q4_value.specs.declared.column.Column.{Column}
 use Rattle.q4_value.specs.declared.row.Value.{Value}
 use Rattle.q4_value.specs.Escape.{escaped}
 use Rattle.q4_value.specs.Row.{row_limit, IsRowOf, row_size}
@@ -11,16 +10,14 @@ use Rattle.q4_def.specs.declared.table_def.TableDef.{TableDef}
 use Rattle.q4_def.specs.Tables.{AreDefs, names_of}
 use Rattle.q4_machine.specs.Definitions.{columns_at}
 use Rattle.q4_machine.proofs.Histories.{cons_head, cons_tail}
-use Rattle.q4_proto.specs.declared.command.Command.{Command}
-use Rattle.q4_proto.specs.declared.command.Command.TheVariants as spelled
 use Rattle.q4_proto.specs.declared.command.CommandFault.{CommandFault}
 use Rattle.q4_proto.specs.declared.command.CommandFault.TheVariants.{NotText, Unknown, NotBuilt, Fields, Number, Escape, Entries, NoTable, Cond, Count, Value as BadValue, Long, Memory}
 use Rattle.q4_proto.specs.declared.keyword.Keyword.TheVariants.{Insert}
 use Rattle.q4_proto.specs.Fields.{IsSpelled, IsFirst}
-use Rattle.q4_proto.specs.Commands.{spelled_value, SpellsInsert, IsOfNoTable, IsInsertInto, IsMisspelled, FirstMisspelled, IsLongRow, Stands, rank, NoneBefore, IsRefused, ReadsFields}
+use Rattle.q4_proto.specs.Commands.{spelled_value, SpellsInsert, IsOfNoTable, IsInsertInto, IsMisspelled, FirstMisspelled, Stands, NoneBefore, IsRefused, ReadsFields}
 use Rattle.q4_proto.specs.Inner.{ReadsValues}
 use Rattle.q4_proto.proofs.Named.{escaped_name, found_name, found_contained, found_inside, one_place}
-use Rattle.q4_proto.proofs.Values.{all_at, none_misspelled, row_length}
+use Rattle.q4_proto.proofs.Values.{all_at, none_misspelled}
 
 cons_nil : {X : Type 0} (x : X) (xs : List X) → x ∷ xs ≡ [] → ⊥
 cons_nil x xs is = cc is

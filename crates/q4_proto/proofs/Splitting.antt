@@ -1,6 +1,6 @@
 -- A line and its fields.
-use Rattle.std.proofs.Common.{◌≡◌, ◌==◌, ◌<◌, ◌≤◌, ◌+◌, ◌++◌, ◌∷◌, ◌∙◌, [], List, ℕ, Bool, true, false, cond, length, get_or, take, drop, refl, sym, ap, subst, arith, add_assoc}
-use Rattle.std.specs.List.{All, slice_split, onto_first, position_or_len, before_first, after_first}
+use Rattle.std.proofs.Common.{◌≡◌, ◌==◌, ◌<◌, ◌≤◌, ◌+◌, ◌++◌, ◌∷◌, ◌∙◌, [], List, ℕ, Bool, true, false, cond, length, get_or, take, drop, refl, sym, ap, subst, arith}
+use Rattle.std.specs.List.{All, onto_first, position_or_len, before_first, after_first}
 use Rattle.std.specs.Str.{IsUtf8, IsCharBoundary}
 use Rattle.std.proofs.lemmas.Bool.{eqb-true, ne_eqb, eq-eqb}
 use Rattle.std.proofs.lemmas.List.{drop_more, get_or-drop, get_or_default, length-drop, take-append-drop}
@@ -26,6 +26,10 @@ few_fields line first rest is =
     let count = length-slice_split is_tab line in
     let most = count_by-le-length is_tab line in
     omega (arith, ap length is, count, most)
+
+-- a line has a field
+pub some_field : (line : List ℕ) → fields_of line ≡ [] → ⊥
+some_field line none = let count = length-slice_split is_tab line in omega (arith, ap length none, count)
 
 -- ## The last field
 

@@ -5,7 +5,6 @@ use Rattle.std.proofs.lemmas.List.{length-map, map-append, length-append, length
 use Rattle.std.proofs.lemmas.List.Elements.{All-nil, All-cons, All-head, All-tail}
 use Rattle.std.proofs.Math.Seq.{get_or-append_seam}
 use Rattle.q4_value.specs.declared.column.Column.{Column}
-use Rattle.q4_value.specs.declared.column.Kind.{Kind}
 use Rattle.q4_value.specs.declared.row.Value.{Value}
 use Rattle.q4_value.specs.Row.{kind_of, IsValue, IsRowOf}
 use Rattle.q4_value.proofs.Rows.{parted, take_next, row_push}

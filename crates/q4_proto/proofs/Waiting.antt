@@ -1,5 +1,5 @@
 -- How the fields of a wait are cut, and how they are refused: no earlier check stands.
-use Rattle.std.proofs.Common.{◌≡◌, ◌≢◌, ◌==◌, ◌<◌, ◌≤◌, ◌+◌, ◌-◌, ◌++◌, ◌∷◌, ◌∙◌, [], List, ℕ, Bool, true, false, Option, None, Some, Result, Ok, Err, All, length, get_or, take, decimal, refl, sym, ap, subst, arith, if◌then◌else◌}
+use Rattle.std.proofs.Common.{◌≡◌, ◌≢◌, ◌<◌, ◌≤◌, ◌-◌, ◌++◌, ◌∷◌, ◌∙◌, [], List, ℕ, Bool, true, false, Option, None, Some, Result, Ok, Err, All, length, get_or, take, refl, sym, ap, subst, arith, if◌then◌else◌}
 use Rattle.std.specs.List.{Contains, before_first}
 use Rattle.std.specs.Bool.{OnTrue, OnFalse}
 use Rattle.std.specs.Option.{is_some, IfSome, IfNone}
@@ -18,8 +18,8 @@ use Rattle.q4_machine.proofs.Validity.{none_some}
 use Rattle.q4_proto.specs.declared.command.CommandFault.{CommandFault}
 use Rattle.q4_proto.specs.declared.command.CommandFault.TheVariants.{NotText, Unknown, NotBuilt, Fields, Number, Escape, Entries, NoTable, Cond, Count, Value as BadValue, Long, Memory}
 use Rattle.q4_proto.specs.declared.keyword.Keyword.TheVariants.{Wait}
-use Rattle.q4_proto.specs.Fields.{IsSpelled, IsFirst}
-use Rattle.q4_proto.specs.Commands.{behind_equal, seconds_of, entries_of, IsSeconds, SpellsEntry, SpellEntries, SpellsWait, IsBadNumber, IsNoNumber, IsOfNoTable, EntryFails, FirstEntryFails, Stands, rank, NoneBefore, IsRefused, ReadsFields}
+use Rattle.q4_proto.specs.Fields.{IsSpelled}
+use Rattle.q4_proto.specs.Commands.{behind_equal, seconds_of, entries_of, IsSeconds, SpellsEntry, SpellEntries, IsBadNumber, IsNoNumber, IsOfNoTable, FirstEntryFails, NoneBefore, ReadsFields}
 use Rattle.q4_proto.specs.Inner.{ReadsEntries}
 use Rattle.q4_proto.proofs.Colons.{is_colon, before_escaped}
 use Rattle.q4_proto.proofs.Named.{escaped_name, contained_name, found_contained}

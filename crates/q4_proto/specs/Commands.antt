@@ -63,11 +63,11 @@ abbrev pub behind_equal : List ℕ → Option (List ℕ)
 behind_equal [] = None
 behind_equal (b ∷ rest) = if b == 61 then Some rest else None
 
--- The seconds of a wait stand in its last field, behind a `=`.
+-- The seconds of a wait are what stands behind the `=` of a last field that begins with one.
 abbrev pub seconds_of : List (List ℕ) → Option (List ℕ)
 seconds_of args = behind_equal (slice_index_or args (length args - 1) [])
 
--- its other fields
+-- its entries are the other fields
 abbrev pub entries_of : List (List ℕ) → List (List ℕ)
 entries_of args = if is_some (seconds_of args) then take (length args - 1) args else args
 

@@ -1,6 +1,5 @@
 ghost use Rattle.std.specs.Prelude.{◌<◌, ◌^◌, List, length};
 ghost use Rattle.q4_def.specs.declared.table_def.TableDef.{TableDef};
-ghost use Rattle.q4_flow.specs.Lines.{line_limit};
 ghost use Rattle.q4_proto.specs.declared.keyword.Keyword.TheVariants as word;
 ghost use Rattle.q4_proto.specs.Commands.{Reads, ReadsFields};
 
@@ -72,11 +71,17 @@ impl From<NoMemory> for CommandFault {
     }
 }
 
-/// Reads one line, without its newline, for tables of these definitions.
+// Lines have fewer bytes, so that each place in one is a number of 32 bits.
+const LINE_LIMIT: usize = 4_194_304;
+
+/// Reads one line, without its newline, for tables of these definitions. It wants memory for one of 4,194,304 bytes or
+/// more, which `Lines` never gives.
 pub fn read_command(alloc: Global, line: &[u8], defs: &Defs) -> Result<Command, CommandFault>
-    requires { length line.now < line_limit }
     ensures { Reads defs.now line.now result }
 {
+    if line.len() >= LINE_LIMIT {
+        return Err(CommandFault::Memory);
+    }
     let Ok(text) = std::str::from_utf8(line) else {
         return Err(CommandFault::NotText);
     };

@@ -1,6 +1,6 @@
 //! What holds of lines whatever a call does. These functions do nothing: their contracts are the laws.
 
-ghost use Rattle.std.specs.Prelude.{◌≡◌, ◌⊎◌, ℕ, List, Ok, Err};
+ghost use Rattle.std.specs.Prelude.{◌≡◌, ◌≢◌, ◌⊎◌, ℕ, List, Result, Ok, Err};
 ghost use Rattle.q4_def.specs.declared.table_def.TableDef.{TableDef as Def};
 ghost use Rattle.q4_def.specs.Tables.{AreDefs};
 ghost use Rattle.q4_proto.specs.declared.command.Command.{Command as Spelled};
@@ -22,4 +22,9 @@ pub fn one_command()
 /// A law: a line has one fault at most, want of memory apart.
 pub fn one_fault()
     ensures { (defs : List Def) (line : List ℕ) (one other : Fault) → AreDefs defs → Reads defs line (Err one) → Reads defs line (Err other) → (one ≡ other) ⊎ ((one ≡ Memory) ⊎ (other ≡ Memory)) }
+{}
+
+/// A law: every line has an answer other than want of memory, a command or a fault.
+pub fn every_line_is_answered()
+    ensures { (defs : List Def) (line : List ℕ) → AreDefs defs → (answer : Result Spelled Fault) × (answer ≢ Err Memory) × Reads defs line answer }
 {}

@@ -519,6 +519,29 @@ fn refused_lines(rt: HostRuntime) {
     }
 }
 
+// A condition of 1,024 spaces is the empty one, and one space more is too long.
+#[test]
+fn long_conditions(rt: HostRuntime) {
+    let defs = two_tables(&rt, rt.alloc());
+    let mut line = Vec::from_slice(rt.alloc(), b"wait\thot\tjobs:").expect(&rt, "memory");
+    for _ in 0..1_024 {
+        line.push(b' ').expect(&rt, "memory");
+    }
+    assert!(rt; line.len() < 2_000);
+    assert!(rt; read_command(rt.alloc(), &line, &defs).is_ok());
+    line.push(b' ').expect(&rt, "memory");
+    assert!(rt; line.len() < 2_000);
+    match read_command(rt.alloc(), &line, &defs) {
+        Ok(_) => panic!(rt; "taken"),
+        Err(fault) => check_refusal(
+            &rt,
+            rt.alloc(),
+            refusal_of(fault),
+            b"err\t30\tcondition too long\t2\t1024\n",
+        ),
+    }
+}
+
 // What an accepted line is read as.
 #[derive(Clone, Copy)]
 enum Read {

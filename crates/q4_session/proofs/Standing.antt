@@ -1,5 +1,5 @@
 -- What was answered stands settled, whatever comes behind it.
-use Rattle.std.proofs.Common.{◌≡◌, ◌++◌, ◌∷◌, ◌∙◌, ◌<◌, [], List, ℕ, Option, None, Some, Result, Ok, Err, length, refl, sym, ap, subst, arith, append_assoc}
+use Rattle.std.proofs.Common.{◌≡◌, ◌+◌, ◌++◌, ◌∷◌, ◌∙◌, ◌<◌, [], List, ℕ, Option, None, Some, Result, Ok, Err, length, refl, sym, ap, subst, arith, append_assoc, append-nil}
 use Rattle.std.specs.List.{Any}
 use Rattle.std.proofs.Math.ListN.{get_or-append}
 use Rattle.std.proofs.lemmas.List.{length-append}
@@ -53,17 +53,19 @@ settled_more history more place inside settled before e later cut up_to change =
 
 -- the same of a line in the history that it left
 part_done : (client : Client) (before : List Entry) (exchange : Exchange) (command : Command) (call : Call) (answer : Answer) → Reads client.defs exchange.line (Ok command) → call_of command ≡ Some call
-    → IsPart client.limit before exchange.grown client.caller client.session call answer → exchange.outcome ≡ answer_outcome answer → IsGranted (answer_outcome answer) → IsDone client (before ++ exchange.grown) exchange
+    → IsPart client.limit before exchange.grown client.caller client.session call answer → exchange.outcome ≡ answer_outcome answer → IsGranted (answer_outcome answer) → IsDone client before (before ++ exchange.grown) exchange
 part_done client before exchange command call (Replied reply) reads asks part told granted =
     let stands = part.cases in
     let e : Entry = record { caller = client.caller; session = client.session; call = call; reply = reply } in
     record {
       command = command;
       spells = reads;
-      before = before ++ stands.front;
+      front = stands.front;
       entry = e;
-      later = stands.back;
-      cut = ap (λ (grown : List Entry). before ++ grown) stands.cut ∙ sym (append_assoc before stands.front (e ∷ stands.back));
+      back = stands.back;
+      cut = stands.cut;
+      later = [];
+      whole = sym (append-nil (before ++ exchange.grown));
       caller = refl;
       session = refl;
       call = asks;
@@ -74,49 +76,62 @@ part_done client before exchange command call WantsMemory reads asks part told g
 part_done client before exchange command call (Worn count) reads asks part told granted = absurd granted
 
 obeyed_done : (client : Client) (before : List Entry) (patience : PatienceState) (exchange : Exchange) (command : Command) (call : Option Call) → Reads client.defs exchange.line (Ok command) → call_of command ≡ call
-    → Obeys client before patience exchange command call → IsGranted exchange.outcome → IsDone client (before ++ exchange.grown) exchange
+    → Obeys client before patience exchange command call → IsGranted exchange.outcome → IsDone client before (before ++ exchange.grown) exchange
 obeyed_done client before patience exchange command (Some call) reads asks calls granted =
     part_done client before exchange command call calls.answer reads asks calls.part calls.told (subst IsGranted calls.told granted)
 obeyed_done client before patience exchange command None reads asks says granted = absurd (subst IsGranted says.told granted)
 
 read_done : (client : Client) (before : List Entry) (patience : PatienceState) (exchange : Exchange) (read : Result Command CommandFault) → Reads client.defs exchange.line read
-    → Does client before patience exchange read → IsGranted exchange.outcome → IsDone client (before ++ exchange.grown) exchange
+    → Does client before patience exchange read → IsGranted exchange.outcome → IsDone client before (before ++ exchange.grown) exchange
 read_done client before patience exchange (Ok command) reads does granted = obeyed_done client before patience exchange command (call_of command) reads refl does granted
 read_done client before patience exchange (Err fault) reads does granted = absurd (subst IsGranted does.told granted)
 
-line_done : (client : Client) (before : List Entry) (patience : PatienceState) (exchange : Exchange) → IsExchange client before patience exchange → IsGranted exchange.outcome → IsDone client (before ++ exchange.grown) exchange
+line_done : (client : Client) (before : List Entry) (patience : PatienceState) (exchange : Exchange) → IsExchange client before patience exchange → IsGranted exchange.outcome → IsDone client before (before ++ exchange.grown) exchange
 line_done client before patience exchange is granted = read_done client before patience exchange is.read is.reads is.does granted
 
 -- ## The entry of a line among others
 
-done_more : (client : Client) (history more : List Entry) (exchange : Exchange) → IsDone client history exchange → IsDone client (history ++ more) exchange
-done_more client history more exchange done =
-    let size : length done.before < length history = omega (arith, ap length done.cut, length-append done.before (done.entry ∷ done.later)) in
+done_more : (client : Client) (start history more : List Entry) (exchange : Exchange) → IsDone client start history exchange → IsDone client start (history ++ more) exchange
+done_more client start history more exchange done =
+    let whole : length history ≡ length (start ++ exchange.grown) + length done.later = ap length done.whole ∙ length-append (start ++ exchange.grown) done.later in
+    let front : length (start ++ done.front) ≡ length start + length done.front = length-append start done.front in
+    let size : length (start ++ done.front) < length history =
+    omega (arith, whole, front, length-append start exchange.grown, ap length done.cut, length-append done.front (done.entry ∷ done.back)) in
     record {
       command = done.command;
       spells = done.spells;
-      before = done.before;
+      front = done.front;
       entry = done.entry;
+      back = done.back;
+      cut = done.cut;
       later = done.later ++ more;
-      cut = ap (λ (h : List Entry). h ++ more) done.cut ∙ append_assoc done.before (done.entry ∷ done.later) more;
+      whole = ap (λ (h : List Entry). h ++ more) done.whole ∙ append_assoc (start ++ exchange.grown) done.later more;
       caller = done.caller;
       session = done.session;
       call = done.call;
       told = done.told;
-      settled = settled_more history more (length done.before) size done.settled;
+      settled = settled_more history more (length (start ++ done.front)) size done.settled;
     }
 
-done_as : (client : Client) (history history' : List Entry) (exchange : Exchange) → history ≡ history' → IsDone client history exchange → IsDone client history' exchange
-done_as client history history' exchange same done = subst (λ (h : List Entry). IsDone client h exchange) same done
+done_as : (client : Client) (start start' history history' : List Entry) (exchange : Exchange) → start ≡ start' → history ≡ history' → IsDone client start history exchange → IsDone client start' history' exchange
+done_as client start start' history history' exchange here same done = subst (λ (s : List Entry). IsDone client s history' exchange) here (subst (λ (h : List Entry). IsDone client start h exchange) same done)
 
-pub lines_done : (client : Client) (before : List Entry) (patience : PatienceState) (exchanges front back : List Exchange) (e : Exchange)
-    → AreExchanges client before patience exchanges → exchanges ≡ front ++ e ∷ back → IsGranted e.outcome → IsDone client (before ++ grown_by exchanges) e
-lines_done client before patience [] [] back e are cut granted = cc cut
-lines_done client before patience [] (x ∷ front) back e are cut granted = cc cut
-lines_done client before patience (x ∷ xs) [] back e are cut granted =
+conversation_done : (client : Client) (before : List Entry) (patience : PatienceState) (exchanges front back : List Exchange) (e : Exchange)
+    → AreExchanges client before patience exchanges → exchanges ≡ front ++ e ∷ back → IsGranted e.outcome → IsDone client (before ++ grown_by front) (before ++ grown_by exchanges) e
+conversation_done client before patience [] [] back e are cut granted = cc cut
+conversation_done client before patience [] (x ∷ front) back e are cut granted = cc cut
+conversation_done client before patience (x ∷ xs) [] back e are cut granted =
     let same : x ≡ e = head_is x e xs back cut in
-    let done : IsDone client (before ++ x.grown) x = line_done client before patience x are.0 (subst (λ (y : Exchange). IsGranted y.outcome) (sym same) granted) in
-    subst (λ (y : Exchange). IsDone client (before ++ (x.grown ++ grown_by xs)) y) same (done_as client ((before ++ x.grown) ++ grown_by xs) (before ++ (x.grown ++ grown_by xs)) x (append_assoc before x.grown (grown_by xs)) (done_more client (before ++ x.grown) (grown_by xs) x done))
-lines_done client before patience (x ∷ xs) (y ∷ front) back e are cut granted =
-    done_as client ((before ++ x.grown) ++ grown_by xs) (before ++ (x.grown ++ grown_by xs)) e (append_assoc before x.grown (grown_by xs))
-    (lines_done client (before ++ x.grown) x.patience xs front back e are.1 (tail_is x y xs (front ++ e ∷ back) cut) granted)
+    let done : IsDone client before (before ++ x.grown) x = line_done client before patience x are.0 (subst (λ (y : Exchange). IsGranted y.outcome) (sym same) granted) in
+    let more = done_more client before (before ++ x.grown) (grown_by xs) x done in
+    subst (λ (y : Exchange). IsDone client (before ++ []) (before ++ (x.grown ++ grown_by xs)) y) same (done_as client before (before ++ []) ((before ++ x.grown) ++ grown_by xs) (before ++ (x.grown ++ grown_by xs)) x (sym (append-nil before)) (append_assoc before x.grown (grown_by xs)) more)
+conversation_done client before patience (x ∷ xs) (y ∷ front) back e are cut granted =
+    let same : x ≡ y = head_is x y xs (front ++ e ∷ back) cut in
+    let later = conversation_done client (before ++ x.grown) x.patience xs front back e are.1 (tail_is x y xs (front ++ e ∷ back) cut) granted in
+    done_as client ((before ++ x.grown) ++ grown_by front) (before ++ (y.grown ++ grown_by front)) ((before ++ x.grown) ++ grown_by xs) (before ++ (x.grown ++ grown_by xs)) e
+    (append_assoc before x.grown (grown_by front) ∙ ap (λ (z : Exchange). before ++ (z.grown ++ grown_by front)) same) (append_assoc before x.grown (grown_by xs)) later
+
+pub lines_done : (client : Client) (before : List Entry) (patience : PatienceState) (exchanges front back : List Exchange) (e : Exchange) (more : List Entry)
+    → AreExchanges client before patience exchanges → exchanges ≡ front ++ e ∷ back → IsGranted e.outcome → IsDone client (before ++ grown_by front) ((before ++ grown_by exchanges) ++ more) e
+lines_done client before patience exchanges front back e more are cut granted =
+    done_more client (before ++ grown_by front) (before ++ grown_by exchanges) more e (conversation_done client before patience exchanges front back e are cut granted)

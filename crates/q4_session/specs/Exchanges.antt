@@ -2,6 +2,7 @@
 use Rattle.std.specs.Prelude.{◌≡◌, ◌≢◌, ◌++◌, ◌∷◌, ◌⊎◌, [], ℕ, List, Option, Some, None, Result, Ok, Err, All}
 use Rattle.std.specs.List.{flat_map}
 use Rattle.q4_def.specs.declared.table_def.TableDef.{TableDef}
+use Rattle.q4_def.specs.Tables.{AreDefs}
 use Rattle.q4_machine.specs.declared.entry.Entry.{Entry}
 use Rattle.q4_machine.specs.declared.entry.Call.{Call}
 use Rattle.q4_machine.specs.declared.entry.Call.TheVariants as call
@@ -9,7 +10,7 @@ use Rattle.q4_machine.specs.declared.entry.Reply.{Reply}
 use Rattle.q4_machine.specs.declared.entry.Reply.TheVariants as reply
 use Rattle.q4_machine.specs.declared.entry.Refusal.{Refusal}
 use Rattle.q4_machine.specs.declared.entry.Refusal.TheVariants as refusal
-use Rattle.q4_machine.specs.Parts.{Answer, Replied, WantsMemory, Worn, IsPart, IsWorn, Stands, Waits, calls_of}
+use Rattle.q4_machine.specs.Parts.{Answer, Replied, WantsMemory, Worn, IsPart, WasWorn, Stands, Waits, calls_of}
 use Rattle.q4_machine.specs.Patience.{PatienceState}
 use Rattle.q4_proto.specs.declared.command.Command.{Command}
 use Rattle.q4_proto.specs.declared.command.Command.TheVariants.{Insert, Wait, RowId, End, Abort, Select, Quit}
@@ -115,10 +116,6 @@ Does client before patience exchange (Err fault) = Says patience exchange (fault
 
 -- ## Completeness
 
--- Nowhere while it grew the history was full.
-abbrev pub IsNowhereWorn : ℕ → List Entry → List Entry → Type 0
-IsNowhereWorn limit before grown = (start later : List Entry) → grown ≡ start ++ later → IsWorn limit (before ++ start) → ⊥
-
 -- The call's own entry stands, and the outcome is that of its reply.
 pub record IsAnswered (client : Client) (before : List Entry) (exchange : Exchange) (call : Call) : Type 0 where
   pub reply : Reply
@@ -130,19 +127,28 @@ pub record IsRefusedMemory (client : Client) (exchange : Exchange) : Type 0 wher
   pub told : exchange.outcome ≡ wants_memory
   pub none : calls_of client.caller exchange.grown ≡ []
 
+-- The outcome is that the history is full, and it was, with the count that is told.
+pub record IsRefusedFull (client : Client) (before : List Entry) (exchange : Exchange) : Type 0 where
+  pub count : ℕ
+  pub told : exchange.outcome ≡ is_full count
+  pub worn : WasWorn client.limit before exchange.grown count
+
+-- What a command that a line spells comes to: it was done, or memory was wanted, or the history was full. To quit is answered
+-- whether or not the history is full.
 abbrev pub Completes : Client → List Entry → Exchange → Option Call → Type 0
-Completes client before exchange (Some call) = IsAnswered client before exchange call ⊎ IsRefusedMemory client exchange
+Completes client before exchange (Some call) = IsAnswered client before exchange call ⊎ (IsRefusedMemory client exchange ⊎ IsRefusedFull client before exchange)
 Completes client before exchange None = (exchange.outcome ≡ told.Bye) ⊎ IsRefusedMemory client exchange
 
 -- ## Lines
 
--- One line was read and answered behind this history. A command that it spells was done, or memory was wanted, wherever
--- the history was nowhere full.
+-- One line was read and answered behind this history, for definitions that a file may have. A command that it spells was
+-- done, or memory was wanted, or the history was full.
 pub record IsExchange (client : Client) (before : List Entry) (patience : PatienceState) (exchange : Exchange) : Type 0 where
+  pub defined : AreDefs client.defs
   pub read : Result Command CommandFault
   pub reads : Reads client.defs exchange.line read
   pub does : Does client before patience exchange read
-  pub complete : (command : Command) → Reads client.defs exchange.line (Ok command) → IsNowhereWorn client.limit before exchange.grown → Completes client before exchange (call_of command)
+  pub complete : (command : Command) → Reads client.defs exchange.line (Ok command) → Completes client before exchange (call_of command)
 
 -- Lines were answered one after the other, each behind what the earlier ones added, with the patience that they left.
 abbrev pub AreExchanges : Client → List Entry → PatienceState → List Exchange → Type 0

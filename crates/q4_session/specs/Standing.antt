@@ -16,17 +16,19 @@ IsGranted (Rows rows) = Unit {0}
 IsGranted Bye = ⊥
 IsGranted (Refused code) = ⊥
 
--- The line spells a command, the history has an entry of the client for its call, whose reply gives the outcome, and each
--- change up to that entry is settled.
-pub record IsDone (client : Client) (history : List Entry) (exchange : Exchange) : Type 0 where
+-- The line spells a command, and what the history grew by behind `start` while it was answered has an entry of the client
+-- for its call, whose reply gives the outcome. In the history that this went into, each change up to that entry is settled.
+pub record IsDone (client : Client) (start history : List Entry) (exchange : Exchange) : Type 0 where
   pub command : Command
   pub spells : Reads client.defs exchange.line (Ok command)
-  pub before : List Entry
+  pub front : List Entry
   pub entry : Entry
+  pub back : List Entry
+  pub cut : exchange.grown ≡ front ++ entry ∷ back
   pub later : List Entry
-  pub cut : history ≡ before ++ entry ∷ later
+  pub whole : history ≡ (start ++ exchange.grown) ++ later
   pub caller : entry.caller ≡ client.caller
   pub session : entry.session ≡ client.session
   pub call : call_of command ≡ Some entry.call
   pub told : exchange.outcome ≡ reply_outcome entry.reply
-  pub settled : IsSettled history (length before)
+  pub settled : IsSettled history (length (start ++ front))

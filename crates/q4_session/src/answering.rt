@@ -1,5 +1,4 @@
 ghost use Rattle.std.specs.Prelude.{◌≡◌, ◌≢◌, ◌<◌, ℕ, Some, IsSome, length};
-ghost use Rattle.q4_flow.specs.Lines.{line_limit};
 ghost use Rattle.q4_machine.specs.History.{definitions_of};
 ghost use Rattle.q4_machine.specs.Parts.{IsInOrder, Grows};
 ghost use Rattle.q4_proto.specs.Told.{Bye, told};
@@ -37,7 +36,6 @@ pub fn answer<K: Desk, W: Sink, P: Patience>(
 ) -> Answered
     requires is_open { IsSome (K.current desk.old) }
     requires in_order { IsInOrder (K.seen desk.old) (K.caller desk.old) (K.current desk.old) }
-    requires line { length line.now < line_limit }
     ensures in_order { IsInOrder (K.seen desk.new) (K.caller desk.new) (K.current desk.new) }
     ensures same { (K.caller desk.new ≡ K.caller desk.old) × (K.limit desk.new ≡ K.limit desk.old) }
     ensures defined { definitions_of (K.seen desk.new) ≡ definitions_of (K.seen desk.old) }

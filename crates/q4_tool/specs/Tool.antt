@@ -1,5 +1,5 @@
 -- What the program does.
-use Rattle.std.specs.Prelude.{◌≡◌, ◌∷◌, ◌⊎◌, [], ℕ, List, Option, Result, Ok, Err, All, String, codes, string_bytes}
+use Rattle.std.specs.Prelude.{◌≡◌, ◌∷◌, ◌⊎◌, [], ℕ, List, Option, Result, Ok, Err, All, String, codes, string_bytes, Some}
 use Rattle.std.specs.declared.alloc.Global.{Global}
 use Rattle.q4_flow.specs.Flow.{Rose, Took, TookFront}
 use Rattle.q4_def.specs.declared.table_def.TableDef.{TableDef}
@@ -39,9 +39,9 @@ status_of end.WriteFault = 7
 status_of (end.Worn count) = 10
 status_of end.Memory = 9
 
--- a patience that was never started
+-- a patience that was never started, and whose time is always over: a start gives it no turn
 abbrev pub fresh_patience : PatienceState
-fresh_patience = record { starts = 0; limit = 0; spent = 0; asks = 0; turns = 0 }
+fresh_patience = record { starts = 0; limit = 0; spent = 0; asks = 0; turns = 0; given = Some 0 }
 
 -- One session ran from the input to the output, with a patience that was never started, over the one history of a desk
 -- that begins with the empty tables of these definitions. All of it is the tool's own, by caller 0, and settled by syncs

@@ -1,7 +1,6 @@
 use Rattle.std.proofs.Common.{◌≡◌, ◌∙◌, List, All, Some, refl, sym, ap, subst, inr}
 use Rattle.q4_machine.specs.declared.entry.Call.TheVariants.{Sync}
 use Rattle.q4_machine.specs.declared.entry.Reply.TheVariants.{Done}
-use Rattle.q4_machine.specs.declared.entry.Entry.{Entry}
 use Rattle.q4_machine.specs.declared.looks.Listed.{Listed}
 use Rattle.q4_machine.specs.declared.session.SessionMode.TheVariants.{NonOwner}
 use Rattle.q4_machine.specs.Definitions.{IsListed}
@@ -28,6 +27,7 @@ loop-place-preserved-then-owes-2 g c =
       listed = subst (λ (list : List Listed). All (IsListed (definitions_of c.sync-then-owes-2.new.self.seen)) list) (sym (waits.1 ∙ inv.list)) (subst (λ defs. All (IsListed defs) c.args.list) (sym defined) c.requires.listed);
       defined = defined;
       list = waits.1 ∙ inv.list;
+      given = c.over-over.ensures.given ∙ inv.given;
       starts = c.over-over.ensures.starts ∙ inv.starts;
       limit = c.over-over.ensures.limit ∙ inv.limit;
       asks = asked_more (g.P.Patience.state c.args.patience.now) (g.P.Patience.state c.loop-place.patience) (g.P.Patience.state c.over-over.new.self) c.over-over.result c.over-over.ensures inv.asks;
@@ -46,6 +46,7 @@ loop-place-preserved g c =
       listed = subst (λ (r : Recorded). All (IsListed (definitions_of r.seen)) c.in-Err.back) (sym waits.0) (subst (λ (list : List Listed). All (IsListed (definitions_of c.loop-place.recorded.seen)) list) (sym waits.1) inv.listed);
       defined = c.look.ensures.defined ∙ inv.defined;
       list = waits.1 ∙ inv.list;
+      given = c.over-over.ensures.given ∙ inv.given;
       starts = c.over-over.ensures.starts ∙ inv.starts;
       limit = c.over-over.ensures.limit ∙ inv.limit;
       asks = asked_more (g.P.Patience.state c.args.patience.now) (g.P.Patience.state c.loop-place.patience) (g.P.Patience.state c.over-over.new.self) c.over-over.result c.over-over.ensures inv.asks;

@@ -18,6 +18,7 @@ invariant-loop-place g l = record {
   listed : All (IsListed (definitions_of l.recorded.seen)) l.list;
   defined : definitions_of l.recorded.seen ≡ definitions_of l.fn.recorded.seen;
   list : l.list ≡ l.fn.list;
+  given : (g.P.Patience.state l.patience).given ≡ (g.P.Patience.state l.fn.patience).given;
   starts : (g.P.Patience.state l.patience).starts ≡ (g.P.Patience.state l.fn.patience).starts;
   limit : (g.P.Patience.state l.patience).limit ≡ (g.P.Patience.state l.fn.patience).limit;
   asks : min (g.P.Patience.state l.fn.patience).asks (2 ^ 64 - 1) ≤ (g.P.Patience.state l.patience).asks;

@@ -1,5 +1,4 @@
 use Rattle.std.proofs.Common.{◌∙◌, [], ◌++◌, ◌∷◌, ap, sym, arith}
-use Rattle.q4_machine.specs.declared.shown.NumberedRow.{NumberedRow}
 use Rattle.q4_machine.proofs.Selecting.{shown_only}
 use Rattle.q4_machine.proofs.select.shown_row.Goals as goal
 

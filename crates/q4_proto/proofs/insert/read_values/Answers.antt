@@ -1,4 +1,4 @@
-use Rattle.std.proofs.Common.{◌++◌, Some, map, sym, subst, ◌∙◌, ap, arith}
+use Rattle.std.proofs.Common.{◌++◌, map, subst, ◌∙◌, ap, arith}
 use Rattle.q4_proto.specs.Fields.{IsSpelled}
 use Rattle.q4_proto.specs.Commands.{spelled_value}
 use Rattle.q4_proto.specs.Inner.{ReadsValue}

@@ -1,4 +1,4 @@
-use Rattle.std.proofs.Common.{◌≡◌, ◌++◌, ℕ, List, map, length, take}
+use Rattle.std.proofs.Common.{◌≡◌, ◌++◌, map, length, take}
 use Rattle.q4_value.specs.Row.{IsRowOf}
 use Rattle.q4_proto.specs.Commands.{spelled_value}
 use Rattle.q4_proto.proofs.insert.read_values.Given as goal

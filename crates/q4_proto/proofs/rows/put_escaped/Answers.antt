@@ -1,4 +1,4 @@
-use Rattle.std.proofs.Common.{◌≡◌, ◌<◌, ◌+◌, ◌-◌, ◌++◌, ◌∷◌, ◌∙◌, [], List, ℕ, All, Some, length, take, drop, get_or, decimal, refl, sym, ap, subst, arith}
+use Rattle.std.proofs.Common.{◌++◌, [], take, get_or, refl, ap, subst}
 use Rattle.q4_value.specs.Escape.{escaped}
 use Rattle.q4_value.proofs.Runs.{field_nowhere, escaping_byte, escaping_ends}
 use Rattle.q4_proto.specs.Pieces.{Writing, writing, Puts}

@@ -1,8 +1,7 @@
-use Rattle.std.proofs.Common.{◌≡◌, ◌<◌, ◌+◌, ◌-◌, ◌++◌, ◌∷◌, ◌∙◌, [], List, ℕ, All, Some, length, take, drop, get_or, decimal, refl, sym, ap, subst, arith}
+use Rattle.std.proofs.Common.{◌≡◌, ◌<◌, ◌∷◌, ◌∙◌, [], length, take, get_or, sym, ap, subst, arith}
 use Rattle.std.specs.List.{flat_map}
 use Rattle.std.specs.Option.{option_copied}
 use Rattle.std.proofs.lemmas.Option.{get_or_from_slice_get}
-use Rattle.q4_value.specs.declared.row.Value.{Value}
 use Rattle.q4_proto.specs.Text.{tab_value}
 use Rattle.q4_proto.specs.Commands.{spelled_value}
 use Rattle.q4_proto.specs.Pieces.{Writing, writing, Puts}

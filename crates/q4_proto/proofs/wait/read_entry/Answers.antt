@@ -1,9 +1,7 @@
 use Rattle.std.proofs.Common.{◌≡◌, ◌∙◌, sym, subst}
-use Rattle.q4_cond.specs.declared.fault.CondFault.{CondFault}
 use Rattle.q4_cond.specs.Condition.{ReadsAs}
 use Rattle.q4_cond.specs.Reading.{IsFault}
 use Rattle.q4_machine.specs.Definitions.{columns_at}
-use Rattle.q4_proto.specs.Commands.{EntryFails}
 use Rattle.q4_proto.specs.Inner.{IsCut}
 use Rattle.q4_proto.proofs.Named.{columns_are}
 use Rattle.q4_proto.proofs.Entries.{spells_entry, entry_fails, entry_apart}

@@ -1,4 +1,4 @@
-use Rattle.std.proofs.Common.{◌≡◌, ◌≤◌, ◌∙◌, List, ℕ, All, Err, length, sym, ap, subst, arith}
+use Rattle.std.proofs.Common.{◌≤◌, ◌∙◌, All, Err, length, ap, subst, arith}
 use Rattle.q4_proto.specs.declared.keyword.Keyword.TheVariants.{Wait}
 use Rattle.q4_proto.specs.Fields.{IsFirst}
 use Rattle.q4_proto.specs.Commands.{entries_of, IsOfNoTable}

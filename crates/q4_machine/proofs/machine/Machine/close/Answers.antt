@@ -18,8 +18,8 @@ invariant_of-self-in-Empty c =
     let was = subst (λ (x : MachineState). mode_of x c.args.session ≡ Some Empty) (sym c.self.view_is) c.in-Empty.ensures.mode in
     rw c.remove_session-in-Empty.ensures (valid_left m c.args.session Empty c.self.invariant was not_empty)
 
-pub index_mut-opening-requires : goal.index_mut-opening-requires
-index_mut-opening-requires c =
+pub index_mut-owned-requires : goal.index_mut-owned-requires
+index_mut-owned-requires c =
     let m : MachineState = record { tables = c.self.inside.tables.items; sessions = c.self.inside.sessions.items; next_session = c.self.inside.next_session } in
     let was = subst (λ (x : MachineState). mode_of x c.args.session ≡ Some (Owner c.in-Owner.place c.in-Owner.number)) (sym c.self.view_is) c.in-Owner.ensures.mode in
     let inside = owned_inside m c.in-Owner.place c.in-Owner.number c.args.session (c.self.invariant.owns c.args.session c.in-Owner.place c.in-Owner.number was) in
@@ -30,7 +30,7 @@ invariant_of-self-in-Owner c =
     let m : MachineState = record { tables = c.self.inside.tables.items; sessions = c.self.inside.sessions.items; next_session = c.self.inside.next_session } in
     let was = subst (λ (x : MachineState). mode_of x c.args.session ≡ Some (Owner c.in-Owner.place c.in-Owner.number)) (sym c.self.view_is) c.in-Owner.ensures.mode in
     let inside = owned_inside m c.in-Owner.place c.in-Owner.number c.args.session (c.self.invariant.owns c.args.session c.in-Owner.place c.in-Owner.number was) in
-    let table = indexed c.self.inside.tables.items c.in-Owner.place c.index_mut-opening.result.now inside.0 c.index_mut-opening.ensures.value in
+    let table = indexed c.self.inside.tables.items c.in-Owner.place c.index_mut-owned.result.now inside.0 c.index_mut-owned.ensures.value in
     rw (c.release.ensures, c.remove_session-in-Owner.ensures, table) (valid_given_back m c.args.session c.in-Owner.place c.in-Owner.number c.self.invariant was)
 
 pub release-requires : goal.release-requires
@@ -39,5 +39,5 @@ release-requires c =
     let was = subst (λ (x : MachineState). mode_of x c.args.session ≡ Some (Owner c.in-Owner.place c.in-Owner.number)) (sym c.self.view_is) c.in-Owner.ensures.mode in
     let owns = c.self.invariant.owns c.args.session c.in-Owner.place c.in-Owner.number was in
     let inside = owned_inside m c.in-Owner.place c.in-Owner.number c.args.session owns in
-    let opening = indexed c.self.inside.tables.items c.in-Owner.place c.index_mut-opening.result.now inside.0 c.index_mut-opening.ensures.value in
+    let opening = indexed c.self.inside.tables.items c.in-Owner.place c.index_mut-owned.result.now inside.0 c.index_mut-owned.ensures.value in
     rw opening (owner_owned (row_in (table_at m.tables c.in-Owner.place).rows c.in-Owner.number) c.args.session owns)

@@ -1,15 +1,10 @@
-use Rattle.std.proofs.Common.{◌≡◌, ◌==◌, ◌∙◌, List, ℕ, true, cond, map, take, filter, Some, IfOk, sym, ap, subst}
-use Rattle.std.proofs.lemmas.Bool.{eq-eqb}
+use Rattle.std.proofs.Common.{◌≡◌, ◌==◌, map, take, filter, IfOk, subst}
 use Rattle.std.proofs.lemmas.List.Elements.{All-get_or}
 use Rattle.q4_table.specs.declared.rows.StoredRow.{StoredRow}
 use Rattle.q4_table.specs.TableState.{TableState}
-use Rattle.q4_table.specs.Valid.{IsValidTable}
 use Rattle.q4_table.specs.Rows.{row_in, IsThere}
-use Rattle.q4_machine.specs.declared.entry.Reply.TheVariants as reply
-use Rattle.q4_machine.specs.declared.session.SessionMode.TheVariants.{Owner}
-use Rattle.q4_machine.specs.declared.shown.NumberedRow.{NumberedRow}
-use Rattle.q4_machine.specs.Machine.{no_table, table_at, mode_of}
-use Rattle.q4_machine.specs.Step.{numbered, visible}
+use Rattle.q4_machine.specs.Machine.{no_table, table_at}
+use Rattle.q4_machine.specs.Step.{numbered}
 use Rattle.q4_machine.proofs.Looking.{owner_there}
 use Rattle.q4_machine.proofs.Steps.{IsValidOpening}
 use Rattle.q4_machine.proofs.Selecting.{own_shown}

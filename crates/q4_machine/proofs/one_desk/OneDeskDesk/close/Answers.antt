@@ -1,5 +1,5 @@
 use Rattle.std.proofs.Common.{◌∙◌}
-use Rattle.q4_machine.proofs.Desks.{closing_room, closed_desk, closed_for}
+use Rattle.q4_machine.proofs.Desks.{begins_grown, closing_room, closed_desk, closed_for}
 use Rattle.q4_machine.proofs.one_desk.OneDeskDesk.close.Goals as goal
 
 pub close-requires-clause-room : goal.close-requires-clause-room
@@ -8,7 +8,7 @@ close-requires-clause-room c = closing_room c.self.inside.recorded c.self.inside
 pub invariant_of-self : goal.invariant_of-self
 invariant_of-self c =
     let closed = closed_desk c.self.inside.recorded c.close.new.self c.self.inside.current c.in-Some.session c.self.invariant.desk c.in-Some.is c.close.ensures.closed c.close.ensures.sound in
-    record { desk = closed.0; defined = c.close.ensures.defined ∙ c.self.invariant.defined }
+    record { desk = closed.0; defined = c.close.ensures.defined ∙ c.self.invariant.defined; begins = begins_grown c.self.inside.defs c.self.inside.recorded.seen _ _ c.self.invariant.begins closed.1 }
 
 pub returns-in-Some-clause-in_order : goal.returns-in-Some-clause-in_order
 returns-in-Some-clause-in_order c =

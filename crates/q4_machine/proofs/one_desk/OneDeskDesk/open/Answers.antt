@@ -1,26 +1,26 @@
-use Rattle.std.proofs.Common.{◌∙◌, Ok, Err, None, inl, sym, ap, subst}
+use Rattle.std.proofs.Common.{◌∙◌, Ok, sym, ap, subst}
 use Rattle.q4_machine.specs.History.{definitions_of}
 use Rattle.q4_machine.specs.Parts.{Grows, IsOpened}
 use Rattle.q4_machine.specs.Recorded.{Recorded, DeskState, entry_limit}
 use Rattle.q4_machine.specs.OneDesk.{IsDesk, IsOneDesk}
-use Rattle.q4_machine.proofs.Desks.{desk_reserved, opened_desk, refused_opening}
+use Rattle.q4_machine.proofs.Desks.{begins_grown, begins_same, desk_reserved, opened_desk}
 use Rattle.q4_machine.proofs.one_desk.OneDeskDesk.open.Goals as goal
 
 pub invariant_of-self : goal.invariant_of-self
 invariant_of-self c =
-    record { desk = desk_reserved c.self.inside.recorded c.begin.new.self c.self.inside.current c.self.invariant.desk c.begin.ensures.seen c.begin.ensures.kept; defined = ap definitions_of c.begin.ensures.seen ∙ c.self.invariant.defined }
+    record { desk = desk_reserved c.self.inside.recorded c.begin.new.self c.self.inside.current c.self.invariant.desk c.begin.ensures.seen c.begin.ensures.kept; defined = ap definitions_of c.begin.ensures.seen ∙ c.self.invariant.defined; begins = begins_same c.self.inside.defs c.self.inside.recorded.seen c.begin.new.self.seen c.self.invariant.begins c.begin.ensures.seen }
 
 pub invariant_of-self-in_err-session : goal.invariant_of-self-in_err-session
 invariant_of-self-in_err-session c =
     subst (λ (r : Recorded). IsOneDesk r c.self.inside.defs c.self.inside.current) (sym c.in_err-session.ensures.kept)
-    (record { desk = desk_reserved c.self.inside.recorded c.begin.new.self c.self.inside.current c.self.invariant.desk c.begin.ensures.seen c.begin.ensures.kept; defined = ap definitions_of c.begin.ensures.seen ∙ c.self.invariant.defined })
+    (record { desk = desk_reserved c.self.inside.recorded c.begin.new.self c.self.inside.current c.self.invariant.desk c.begin.ensures.seen c.begin.ensures.kept; defined = ap definitions_of c.begin.ensures.seen ∙ c.self.invariant.defined; begins = begins_same c.self.inside.defs c.self.inside.recorded.seen c.begin.new.self.seen c.self.invariant.begins c.begin.ensures.seen })
 
 pub invariant_of-self-2 : goal.invariant_of-self-2
 invariant_of-self-2 c =
     let none = ap (λ (d : DeskState). d.current) c.self.view_is ∙ c.requires in
     let desk = subst (IsDesk c.self.inside.recorded) none c.self.invariant.desk in
     let opened = opened_desk c.self.inside.recorded c.begin.new.self c.open.new.self c.in_ok-session.session desk c.in_ok-begin.ensures.begun c.in_ok-session.ensures.opened c.open.ensures.sound c.in_ok-session.ensures.is_open in
-    record { desk = opened.0; defined = c.open.ensures.defined ∙ ap definitions_of c.begin.ensures.seen ∙ c.self.invariant.defined }
+    record { desk = opened.0; defined = c.open.ensures.defined ∙ ap definitions_of c.begin.ensures.seen ∙ c.self.invariant.defined; begins = begins_grown c.self.inside.defs c.self.inside.recorded.seen _ _ c.self.invariant.begins opened.1 }
 
 pub returns-clause-in_order : goal.returns-clause-in_order
 returns-clause-in_order c =

@@ -3,12 +3,12 @@ use Rattle.q4_machine.specs.declared.entry.Call.TheVariants as call
 use Rattle.q4_machine.specs.History.{definitions_of}
 use Rattle.q4_machine.specs.Parts.{Replied}
 use Rattle.q4_machine.specs.Step.{row_reply}
-use Rattle.q4_machine.proofs.Desks.{desk_reserved, calm_call, part_for, part_as, fault_for}
+use Rattle.q4_machine.proofs.Desks.{begins_grown, begins_same, desk_reserved, calm_call, part_for, part_as, fault_for}
 use Rattle.q4_machine.proofs.one_desk.OneDeskDesk.row_id.Goals as goal
 
 pub invariant_of-self : goal.invariant_of-self
 invariant_of-self c =
-    record { desk = desk_reserved c.self.inside.recorded c.begin.new.self c.self.inside.current c.self.invariant.desk c.begin.ensures.seen c.begin.ensures.kept; defined = ap definitions_of c.begin.ensures.seen ∙ c.self.invariant.defined }
+    record { desk = desk_reserved c.self.inside.recorded c.begin.new.self c.self.inside.current c.self.invariant.desk c.begin.ensures.seen c.begin.ensures.kept; defined = ap definitions_of c.begin.ensures.seen ∙ c.self.invariant.defined; begins = begins_same c.self.inside.defs c.self.inside.recorded.seen c.begin.new.self.seen c.self.invariant.begins c.begin.ensures.seen }
 
 pub returns-in-Err-clause-part : goal.returns-in-Err-clause-part
 returns-in-Err-clause-part c =
@@ -17,7 +17,7 @@ returns-in-Err-clause-part c =
 pub invariant_of-self-2 : goal.invariant_of-self-2
 invariant_of-self-2 c =
     let called = calm_call c.self.inside.recorded c.begin.new.self c.row_id.new.self c.self.inside.current c.in-Some.session call.RowId (row_reply c.row_id.result) c.in-Some.is c.self.invariant.desk c.in_default-begin.ensures.begun c.row_id.ensures.told refl (λ e. cc e) refl refl c.row_id.ensures.sound c.row_id.ensures.is_open in
-    record { desk = called.desk; defined = c.row_id.ensures.defined ∙ ap definitions_of c.begin.ensures.seen ∙ c.self.invariant.defined }
+    record { desk = called.desk; defined = c.row_id.ensures.defined ∙ ap definitions_of c.begin.ensures.seen ∙ c.self.invariant.defined; begins = begins_grown c.self.inside.defs c.self.inside.recorded.seen _ _ c.self.invariant.begins called.part }
 
 pub returns-clause-in_order : goal.returns-clause-in_order
 returns-clause-in_order c =

@@ -2,12 +2,12 @@ use Rattle.std.proofs.Common.{◌∙◌, ap}
 use Rattle.q4_machine.specs.declared.entry.Call.TheVariants as call
 use Rattle.q4_machine.specs.History.{definitions_of}
 use Rattle.q4_machine.specs.Parts.{select_answer}
-use Rattle.q4_machine.proofs.Desks.{desk_reserved, memory_only, selected, part_for, fault_for}
+use Rattle.q4_machine.proofs.Desks.{begins_grown, begins_same, desk_reserved, memory_only, selected, part_for, fault_for}
 use Rattle.q4_machine.proofs.one_desk.OneDeskDesk.select.Goals as goal
 
 pub invariant_of-self : goal.invariant_of-self
 invariant_of-self c =
-    record { desk = desk_reserved c.self.inside.recorded c.begin.new.self c.self.inside.current c.self.invariant.desk c.begin.ensures.seen c.begin.ensures.kept; defined = ap definitions_of c.begin.ensures.seen ∙ c.self.invariant.defined }
+    record { desk = desk_reserved c.self.inside.recorded c.begin.new.self c.self.inside.current c.self.invariant.desk c.begin.ensures.seen c.begin.ensures.kept; defined = ap definitions_of c.begin.ensures.seen ∙ c.self.invariant.defined; begins = begins_same c.self.inside.defs c.self.inside.recorded.seen c.begin.new.self.seen c.self.invariant.begins c.begin.ensures.seen }
 
 pub returns-in-Err-clause-part : goal.returns-in-Err-clause-part
 returns-in-Err-clause-part c =
@@ -16,7 +16,7 @@ returns-in-Err-clause-part c =
 pub invariant_of-self-2 : goal.invariant_of-self-2
 invariant_of-self-2 c =
     let called = selected c.self.inside.recorded c.begin.new.self c.select.new.self c.self.inside.current c.in-Some.session c.args.table c.args.most c.select.result c.in-Some.is c.self.invariant.desk c.in_default-begin.ensures.begun c.begin.ensures.kept c.select.ensures.shown (memory_only c.select.result c.select.ensures.memory) c.select.ensures.sound c.select.ensures.is_open in
-    record { desk = called.desk; defined = c.select.ensures.defined ∙ ap definitions_of c.begin.ensures.seen ∙ c.self.invariant.defined }
+    record { desk = called.desk; defined = c.select.ensures.defined ∙ ap definitions_of c.begin.ensures.seen ∙ c.self.invariant.defined; begins = begins_grown c.self.inside.defs c.self.inside.recorded.seen _ _ c.self.invariant.begins called.part }
 
 pub returns-clause-in_order : goal.returns-clause-in_order
 returns-clause-in_order c =

@@ -1,14 +1,14 @@
-use Rattle.std.proofs.Common.{◌≡◌, ◌∙◌, List, Some, Ok, All, refl, sym, ap, subst}
+use Rattle.std.proofs.Common.{◌∙◌, Ok, ap}
 use Rattle.q4_machine.specs.declared.entry.Call.TheVariants as call
 use Rattle.q4_machine.specs.History.{definitions_of}
 use Rattle.q4_machine.specs.Parts.{Replied, wait_answer}
 use Rattle.q4_machine.specs.Step.{look_reply}
-use Rattle.q4_machine.proofs.Desks.{desk_reserved, begun_room, room_ended, no_call, waited, part_for, part_as, fault_for, wait_replied}
+use Rattle.q4_machine.proofs.Desks.{begins_grown, begins_same, desk_reserved, waited, part_for, part_as, fault_for, wait_replied}
 use Rattle.q4_machine.proofs.one_desk.OneDeskDesk.wait.Goals as goal
 
 pub invariant_of-self : goal.invariant_of-self
 invariant_of-self g c =
-    record { desk = desk_reserved c.self.inside.recorded c.begin.new.self c.self.inside.current c.self.invariant.desk c.begin.ensures.seen c.begin.ensures.kept; defined = ap definitions_of c.begin.ensures.seen ∙ c.self.invariant.defined }
+    record { desk = desk_reserved c.self.inside.recorded c.begin.new.self c.self.inside.current c.self.invariant.desk c.begin.ensures.seen c.begin.ensures.kept; defined = ap definitions_of c.begin.ensures.seen ∙ c.self.invariant.defined; begins = begins_same c.self.inside.defs c.self.inside.recorded.seen c.begin.new.self.seen c.self.invariant.begins c.begin.ensures.seen }
 
 pub returns-in-Err-clause-part : goal.returns-in-Err-clause-part
 returns-in-Err-clause-part g c =
@@ -17,7 +17,7 @@ returns-in-Err-clause-part g c =
 pub invariant_of-self-2 : goal.invariant_of-self-2
 invariant_of-self-2 g c =
     let called = waited c.self.inside.recorded c.begin.new.self c.end_first-owes.new.recorded c.look_until.new.recorded c.self.inside.current c.in-Some.session c.in-Ok.copy (look_reply c.look_until.result) c.end_first-owes.result c.in-Some.is c.self.invariant.desk c.in_default-begin.ensures.begun c.end_first-owes.ensures.ended c.end_first-owes.ensures.owes c.look_until.ensures.looked c.look_until.ensures.sound c.look_until.ensures.is_open in
-    record { desk = called.desk; defined = c.look_until.ensures.defined ∙ c.end_first-owes.ensures.defined ∙ ap definitions_of c.begin.ensures.seen ∙ c.self.invariant.defined }
+    record { desk = called.desk; defined = c.look_until.ensures.defined ∙ c.end_first-owes.ensures.defined ∙ ap definitions_of c.begin.ensures.seen ∙ c.self.invariant.defined; begins = begins_grown c.self.inside.defs c.self.inside.recorded.seen _ _ c.self.invariant.begins called.part }
 
 pub returns-clause-in_order : goal.returns-clause-in_order
 returns-clause-in_order g c =
@@ -32,4 +32,4 @@ returns-clause-part g c =
 
 pub invariant_of-self-in_default-copy : goal.invariant_of-self-in_default-copy
 invariant_of-self-in_default-copy g c =
-    record { desk = desk_reserved c.self.inside.recorded c.begin.new.self c.self.inside.current c.self.invariant.desk c.begin.ensures.seen c.begin.ensures.kept; defined = ap definitions_of c.begin.ensures.seen ∙ c.self.invariant.defined }
+    record { desk = desk_reserved c.self.inside.recorded c.begin.new.self c.self.inside.current c.self.invariant.desk c.begin.ensures.seen c.begin.ensures.kept; defined = ap definitions_of c.begin.ensures.seen ∙ c.self.invariant.defined; begins = begins_same c.self.inside.defs c.self.inside.recorded.seen c.begin.new.self.seen c.self.invariant.begins c.begin.ensures.seen }

@@ -1,6 +1,6 @@
-use Rattle.std.proofs.Common.{◌≡◌, ◌<◌, ◌+◌, ◌-◌, ◌++◌, ◌∷◌, ◌∙◌, [], List, ℕ, All, Some, length, take, drop, get_or, decimal, refl, sym, ap, subst, arith}
+use Rattle.std.proofs.Common.{◌++◌, ◌∙◌, refl, sym, ap}
 use Rattle.std.proofs.Common.{append_assoc}
-use Rattle.q4_proto.specs.Pieces.{Writing, writing, Puts}
+use Rattle.q4_proto.specs.Pieces.{Writing, writing}
 use Rattle.q4_proto.proofs.Writing.{put_then, waits_then}
 use Rattle.q4_proto.proofs.pieces.Pieces.put.Goals as goal
 
