@@ -43,7 +43,7 @@ status_of end.Memory = 9
 abbrev pub fresh_patience : PatienceState
 fresh_patience = record { starts = 0; limit = 0; spent = 0; asks = 0; turns = 0; given = Some 0 }
 
--- One session ran from the input to the output, with a patience that was never started, over the one history of a desk
+-- One session ran from the input to the output, with a patience whose time is always over, over the one history of a desk
 -- that begins with the empty tables of these definitions. All of it is the tool's own, by caller 0, and settled by syncs
 -- that were owed.
 pub record Ran (defs : List TableDef) (left left' : Option (List ℕ)) (ended untouched : Type 0) (written written' : Option (List ℕ)) (status : ℕ) : Type 0 where
