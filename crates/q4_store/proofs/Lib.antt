@@ -1,0 +1,4 @@
+pub mod Idle
+pub mod Filling
+pub mod Switching
+pub mod Landing
