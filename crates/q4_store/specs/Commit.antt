@@ -1,8 +1,13 @@
 -- What a commit leaves of a side, by its bytes.
-use Rattle.std.specs.Prelude.{◌≡◌, ◌≢◌, ◌+◌, ◌≤◌, ◌⊎◌, max, ℕ, List, ◌∷◌, ◌++◌, length}
+use Rattle.std.specs.Prelude.{◌≡◌, ◌≢◌, ◌+◌, ◌≤◌, ◌⊎◌, max, ℕ, List, [], ◌∷◌, ◌++◌, length}
+use Rattle.std.specs.Int.{w32, to_be_bytes}
 use Rattle.q4_disk.specs.declared.disk.Side.{Side}
 use Rattle.q4_disk.specs.Told.{Sides, Told}
 use Rattle.q4_disk.specs.Images.{on, other, size, Within}
+
+-- what is written behind the closing gate: the length of the records, the records, and the gate that closes the side then
+abbrev pub sealed : List ℕ → List ℕ
+sealed records = to_be_bytes w32 (length records) ++ (records ++ 0 ∷ [])
 
 -- In each image the side has the bytes that are read: this front, a closed gate, and any bytes.
 pub record EndsBehind (told : Told) (side : Side) (front : List ℕ) : Type 0 where

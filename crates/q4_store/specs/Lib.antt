@@ -1,3 +1,6 @@
 pub mod Reading
 pub mod Parts
 pub mod Commit
+pub mod Content
+pub mod Store
+pub mod Waiting
