@@ -6,3 +6,5 @@ pub mod Fronts
 pub mod Lifting
 pub mod RowParts
 pub mod Sealing
+pub mod Appending
+pub mod Commits

@@ -1,5 +1,12 @@
 -- What contracts see of a store, and what it stands for.
-use Rattle.std.specs.Prelude.{◌≡◌, ◌<◌, ◌≤◌, ◌+◌, ◌*◌, ℕ, Bool, true, false, List, [], ◌∷◌, None, All, IsTrue, length}
+use Rattle.std.specs.Prelude.{◌≡◌, ◌<◌, ◌≤◌, ◌+◌, ◌*◌, ℕ, Bool, true, false, List, [], ◌∷◌, Option, None, All, IsTrue, length}
+use Rattle.std.specs.Option.{ForSome}
+use Rattle.q4_value.specs.declared.row.Value.{Value}
+use Rattle.q4_value.specs.Row.{Fits}
+use Rattle.q4_table.specs.declared.adding.Check.TheVariants as check
+use Rattle.q4_table.specs.declared.origin.Origin.{Origin}
+use Rattle.q4_table.specs.Adding.{IsOrigin, check_of}
+use Rattle.q4_table.specs.Rows.{IsThere}
 use Rattle.q4_table.specs.TableState.{TableState}
 use Rattle.q4_table.specs.Valid.{IsValidTable}
 use Rattle.q4_record.specs.Record.{records_bytes}
@@ -8,6 +15,8 @@ use Rattle.q4_record.specs.Side.{side_limit, Side as IsSide}
 use Rattle.q4_disk.specs.declared.disk.Side.{Side}
 use Rattle.q4_disk.specs.Told.{Told}
 use Rattle.q4_disk.specs.Images.{on, other, size, Within}
+use Rattle.q4_store.specs.declared.fault.AppendFault.{AppendFault}
+use Rattle.q4_store.specs.declared.fault.AppendFault.TheVariants as fault
 use Rattle.q4_store.specs.Reading.{IsBehind}
 use Rattle.q4_store.specs.Parts.{IsShut}
 use Rattle.q4_store.specs.Content.{Content, table_of, IsPrefix}
@@ -76,3 +85,27 @@ pub record IsKept {D : Type 0} (told : D → Told) (store : Stored D) : Type 0 w
   pub within : IsTrue (told store.disk).honest → store.failed ≡ false → store.end ≤ size store.side (told store.disk).bytes
   pub room : length_of store + 32 * store.rows ≤ side_limit
   pub reserve : 0 < store.reserved → length_of store + cost_of store store.reserved + 32 * (store.rows + 1) ≤ side_limit
+
+-- And there is memory for it, in the batch and for a copy, and for a reserved row and its end.
+pub record IsHeld {D : Type 0} (told : D → Told) (store : Stored D) (memory copy_memory : ℕ) : Type 0 where
+  pub kept : IsKept told store
+  pub batch : 9 * store.rows ≤ memory
+  pub copy : 9 * store.rows ≤ copy_memory
+  pub reserve_batch : 0 < store.reserved → store.reserved + 9 * (store.rows + 1) ≤ memory
+  pub reserve_copy : 0 < store.reserved → 9 * (store.rows + 1) ≤ copy_memory
+
+-- The table with all changes adds this row as this number.
+pub record TakesRow (content : Content) (number : ℕ) (row : List Value) (origin : Option Origin) : Type 0 where
+  pub fits : Fits (table_of content).columns row
+  pub valid : ForSome origin IsOrigin
+  pub new : check_of (table_of content) row origin ≡ check.New
+  pub is_next : number ≡ (table_of content).next
+
+-- it has this row
+abbrev pub HasRow : Content → ℕ → Type 0
+HasRow content number = IsThere (table_of content).rows number
+
+-- Why no record of this size is taken: the side is full, with its length and what is pending, or memory was wanted.
+abbrev pub IsRefused : {D : Type 0} → Stored D → ℕ → ℕ → AppendFault → Type 0
+IsRefused store size live (fault.FileFull length) = (length ≡ length_of store) × IsOver (length_of store) (cost_of store size) live
+IsRefused store size live fault.Memory = IsOver (length_of store) (cost_of store size) live → ⊥

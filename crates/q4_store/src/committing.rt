@@ -26,6 +26,7 @@ pub(crate) fn commit_batch<D: Disk>(
     ensures done { OnOk result ((front : List ℕ) → IsTrue (D.told disk.old).honest → EndsBehind (D.told disk.old) side front → end ≡ length front + 1
         → IsOpenBehind front batch.now (grown (D.told disk.old) side end batch.now) (on side (D.told disk.new).bytes)) }
     ensures only { OnOk result (IsTrue (D.told disk.old).honest → Within (D.told disk.new).images (λ c. on side c ≡ on side (D.told disk.new).bytes)) }
+    ensures long { OnOk result (IsTrue (D.told disk.old).honest → end + length batch.now ≤ size side (D.told disk.new).bytes) }
     ensures other { IsTrue (D.told disk.old).honest → OtherStays side (D.told disk.old) (D.told disk.new) }
     ensures calls { (D.told disk.new).calls ≤ (D.told disk.old).calls + 4 }
     ensures writes { (D.told disk.new).writes ≤ (D.told disk.old).writes + 2 }

@@ -3,5 +3,12 @@
 
 mod batch;
 mod committing;
+mod fault;
+mod limit;
 mod parts;
 mod spelling;
+mod store;
+
+pub use fault::{AppendFault, OpenFault};
+pub use limit::room;
+pub use store::Store;
