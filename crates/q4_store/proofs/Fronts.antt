@@ -36,11 +36,11 @@ told_front place front more within =
     let long : 8 ≤ length (drop place front) = omega (arith, within, length-drop place front) in
     ap (λ (l : List ℕ). from_be_bytes w64 (take 8 l)) drops ∙ ap (from_be_bytes w64) (take-append-le 8 (drop place front) more long)
 
-gate_front : (front more : List ℕ) → 1 ≤ length front → gate_of (front ++ more) ≡ gate_of front
+pub gate_front : (front more : List ℕ) → 1 ≤ length front → gate_of (front ++ more) ≡ gate_of front
 gate_front [] more long = absurd (omega arith)
 gate_front (b ∷ bs) more long = refl
 
-magic_front : (front more : List ℕ) → 5 ≤ length front → magic_of (front ++ more) ≡ magic_of front
+pub magic_front : (front more : List ℕ) → 5 ≤ length front → magic_of (front ++ more) ≡ magic_of front
 magic_front front more long =
     let l : 4 ≤ length (drop 1 front) = omega (arith, long, length-drop 1 front) in
     ap (take 4) (drop-append-le 1 front more (omega (arith, long))) ∙ take-append-le 4 (drop 1 front) more l

@@ -8,3 +8,8 @@ pub mod RowParts
 pub mod Sealing
 pub mod Appending
 pub mod Commits
+pub mod FirstBytes
+pub mod Quiet
+pub mod Drafts
+pub mod Finding
+pub mod Opened

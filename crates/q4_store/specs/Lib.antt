@@ -4,3 +4,4 @@ pub mod Commit
 pub mod Content
 pub mod Store
 pub mod Waiting
+pub mod Opening

@@ -3,8 +3,12 @@
 
 mod batch;
 mod committing;
+mod creating;
 mod fault;
+mod head;
 mod limit;
+mod loading;
+mod opening;
 mod parts;
 mod spelling;
 mod store;

@@ -1,19 +1,25 @@
-ghost use Rattle.std.specs.Prelude.{◌≡◌, ◌+◌, ◌-◌, ◌*◌, ◌≤◌, ◌<◌, ◌^◌, ◌++◌, ◌↔◌, ℕ, Bool, true, false, None, List, [], ◌∷◌, All, IsTrue, IsOk, IsErr, IfErr, OnOk, OnErr, length};
+ghost use Rattle.std.specs.Prelude.{◌≡◌, ◌+◌, ◌-◌, ◌*◌, ◌≤◌, ◌<◌, ◌^◌, ◌++◌, ◌↔◌, ℕ, Bool, true, false, None, List, [], ◌∷◌, All, IsTrue, IsOk, IsErr, IfOk, IfErr, OnOk, OnErr, length, vec_capacity};
+ghost use Rattle.q4_value.specs.Names.{AreColumns};
 ghost use Rattle.q4_value.specs.Row.{IsValue};
 ghost use Rattle.q4_record.specs.Record.{record_bytes};
 ghost use Rattle.q4_disk.specs.Told.{Sides, Told};
 ghost use Rattle.q4_disk.specs.Time.{LeavesOnly};
 ghost use Rattle.q4_disk.specs.Calls.{bump};
+ghost use Rattle.q4_store.specs.Reading.{Reads, ReadsAs};
+ghost use Rattle.q4_store.specs.Opening.{OpenFails, CountsOpen};
 ghost use Rattle.q4_store.specs.Content.{Content, row_added, row_ended, with_change, all_committed, IsPrefix};
 ghost use Rattle.q4_store.specs.Store.{StandsFor, TakesRow, HasRow, IsOver, IsRefused, length_of, cost_of, pending_length, batch_size};
 
 use crate::batch::Batch;
 use crate::committing::commit_batch;
-use crate::fault::AppendFault;
+use crate::fault::{AppendFault, OpenFault};
 use crate::limit::room;
+use crate::opening::find;
+use q4_def::TableDef;
 use q4_disk::{Disk, DiskFailed, Side};
-use q4_table::Origin;
-use q4_value::Row;
+use q4_table::{Origin, Table};
+use q4_value::{NoMemory, Row};
+use std::alloc::Global;
 use std::marker::Model;
 
 // What a batch has besides its records: a gate and their length.
@@ -51,6 +57,74 @@ impl<D: Disk> Model for Store<D> {
     ghost view = { λ s. record { disk = s.disk; side = s.side; end = s.end; generation = s.generation; records = s.batch.records; rows = s.rows; reserved = s.reserved; known = s.known; failed = s.failed } };
 
     ghost invariant = { λ s. IsHeld D.told (record { disk = s.disk; side = s.side; end = s.end; generation = s.generation; records = s.batch.records; rows = s.rows; reserved = s.reserved; known = s.known; failed = s.failed }) s.batch.room (vec_capacity s.ends) };
+}
+
+impl<D: Disk> Store<D> {
+    /// Opens the store of a table, and gives the table that its disk reads as, without an owner. It syncs both sides,
+    /// reads the current one, and makes a new table of generation 1 on side A where neither is open. A refusal gives
+    /// the disk back.
+    pub fn open(alloc: Global, disk: D, def: &TableDef) -> Result<(Store<D>, Table), (OpenFault, D)>
+        requires { AreColumns def.now.columns }
+        // What is given is what the two sides read as.
+        ensures reads { IfOk result (λ opened. IsTrue (D.told disk).honest → Reads def.now.columns (D.told disk).bytes opened.1 opened.0.generation) }
+        ensures stands { IfOk result (λ opened. StandsFor D.told opened.0 (record { committed = opened.1; pending = [] })) }
+        ensures fresh { IfOk result (λ opened. (opened.0.failed ≡ false) × (opened.0.records ≡ []) × (opened.1.columns ≡ def.now.columns)) }
+        // At each moment inside it each image reads as one that there was.
+        ensures any_moment { IfOk result (λ opened. IsTrue (D.told disk).honest
+            → LeavesOnly (D.told disk) (D.told opened.0.disk) (ReadsAs def.now.columns (D.told disk).images)) }
+        ensures any_moment_err { IfErr result (λ refused. IsTrue (D.told disk).honest
+            → LeavesOnly (D.told disk) (D.told refused.1) (ReadsAs def.now.columns (D.told disk).images)) }
+        // Why they read as nothing. The disk's count rises where it failed, and only there.
+        ensures fails { IfErr result (λ refused. IsTrue (D.told disk).honest → OpenFails def.now.columns (D.told disk).bytes refused.0) }
+        ensures calm { IfOk result (λ opened. (D.told opened.0.disk).faults ≡ (D.told disk).faults) }
+        ensures faults { IfErr result (λ refused. CountsOpen refused.0 (D.told disk).faults (D.told refused.1).faults) }
+        ensures honest { IfOk result (λ opened. (D.told opened.0.disk).honest ≡ (D.told disk).honest) }
+        ensures honest_err { IfErr result (λ refused. (D.told refused.1).honest ≡ (D.told disk).honest) }
+    {
+        let mut disk = disk;
+        let found = match find(alloc, &mut disk, &def.columns) {
+            Ok(found) => found,
+            Err(fault) => return Err((fault, disk)),
+        };
+        let rows = found.table.count();
+        let Ok(memory) = hold(alloc, rows) else {
+            return Err((OpenFault::Memory, disk));
+        };
+        let store = Store {
+            disk,
+            side: found.side,
+            end: found.end,
+            generation: found.generation,
+            batch: memory.batch,
+            ends: memory.ends,
+            rows,
+            reserved: 0,
+            known: found.known,
+            failed: false,
+        };
+        Ok((store, found.table))
+    }
+}
+
+// What a store keeps memory in: the batch, and the ends that a copy of the table will want.
+#[derive(Drop)]
+struct Memory {
+    batch: Batch,
+    ends: Vec<u8>,
+}
+
+// Memory for the ends of so many rows.
+fn hold(alloc: Global, rows: u32) -> Result<Memory, NoMemory>
+    ensures records { IfOk result (λ memory. memory.batch.records ≡ []) }
+    ensures batch { IfOk result (λ memory. 9 * rows ≤ memory.batch.room) }
+    ensures ends { IfOk result (λ memory. 9 * rows ≤ vec_capacity memory.ends) }
+{
+    let size = END_SIZE * rows as usize;
+    let batch = Batch::new(alloc, size)?;
+    match Vec::with_capacity(alloc, size) {
+        Ok(ends) => Ok(Memory { batch, ends }),
+        Err(_) => Err(NoMemory),
+    }
 }
 
 impl<D: Disk> Store<D> {
