@@ -33,8 +33,8 @@ pub(crate) fn commit_batch<D: Disk>(
     ensures syncs { (D.told disk.new).syncs ≤ (D.told disk.old).syncs + 2 }
 {
     disk.write(side, end, batch)?;
-    disk.sync(side)?;
+    disk.sync(side)?; // the batch, before its gate opens
     disk.write(side, end - 1, &[1])?;
-    disk.sync(side)?;
+    disk.sync(side)?; // the open gate
     Ok(())
 }

@@ -16,3 +16,6 @@ mod store;
 pub use fault::{AppendFault, OpenFault};
 pub use limit::room;
 pub use store::Store;
+
+#[cfg(test)]
+mod tests;

@@ -28,7 +28,7 @@ pub(crate) fn close<D: Disk>(disk: &mut D, side: Side, known: bool) -> Result<()
         return Ok(());
     }
     disk.write(side, 0, &[0])?;
-    disk.sync(side)?;
+    disk.sync(side)?; // the closed gate, before bytes behind it change
     Ok(())
 }
 
@@ -75,7 +75,7 @@ pub(crate) fn fill<D: Disk>(
 {
     disk.write(side, at, last)?;
     disk.write(side, 1, header)?;
-    disk.sync(side)?;
+    disk.sync(side)?; // the whole table, before its gate opens
     Ok(())
 }
 
@@ -96,6 +96,6 @@ pub(crate) fn switch<D: Disk>(disk: &mut D, side: Side) -> Result<(), DiskFailed
     ensures other { IsTrue (D.told disk.old).honest → OtherStays side (D.told disk.old) (D.told disk.new) }
 {
     disk.write(side, 0, &[1])?;
-    disk.sync(side)?;
+    disk.sync(side)?; // the open gate
     Ok(())
 }

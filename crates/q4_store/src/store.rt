@@ -156,6 +156,13 @@ impl<D: Disk> Store<D> {
         None
     }
 
+    #[cfg(test)]
+    pub(crate) fn rows(&self) -> u32
+        ensures { result ≡ self.now.rows }
+    {
+        self.rows
+    }
+
     pub fn disk(&self) -> &D
         ensures { result.now ≡ self.now.disk }
     {
