@@ -13,3 +13,4 @@ pub mod Quiet
 pub mod Drafts
 pub mod Finding
 pub mod Opened
+pub mod Apart

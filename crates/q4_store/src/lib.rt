@@ -6,6 +6,7 @@ mod committing;
 mod creating;
 mod fault;
 mod head;
+mod laws;
 mod limit;
 mod loading;
 mod opening;
@@ -14,6 +15,7 @@ mod spelling;
 mod store;
 
 pub use fault::{AppendFault, OpenFault};
+pub use laws::opening_laws;
 pub use limit::room;
 pub use store::Store;
 

@@ -140,6 +140,22 @@ fn room_at_its_limit(rt: HostRuntime) {
 }
 
 #[test]
+fn words_of_faults(rt: HostRuntime) -> Result<(), Fail> {
+    let cases = [
+        (OpenFault::Disk, "disk fault"),
+        (Damaged(Side::A, 44), "damaged a 44"),
+        (Damaged(Side::B, 5), "damaged b 5"),
+        (Schema(2), "schema 2"),
+        (Large(7), "large 7"),
+        (OpenFault::Memory, "out of memory"),
+    ];
+    for (fault, words) in cases {
+        assert_eq!(rt; format!(in rt.alloc(); "{fault}")?.as_str(), words);
+    }
+    Ok(())
+}
+
+#[test]
 fn a_store_writes_the_worked_side(rt: HostRuntime) {
     let alloc = rt.alloc();
     let (mut store, table) = opened(&rt, alloc, MemoryDisk::new(alloc));
