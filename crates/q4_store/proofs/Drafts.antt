@@ -20,7 +20,7 @@ use Rattle.q4_disk.specs.declared.disk.Side.TheVariants.{A}
 use Rattle.q4_disk.specs.Told.{Told}
 use Rattle.q4_store.specs.Reading.{IsBehind}
 use Rattle.q4_store.specs.Parts.{IsBlank, IsFilled, opened}
-use Rattle.q4_store.specs.Opening.{header_bytes, IsDraft, draft_length}
+use Rattle.q4_store.specs.Looking.{header_bytes, IsDraft, draft_length}
 
 pub are_columns : (columns : List Column) → AreColumns columns → IsColumns columns
 are_columns columns is = record { some = omega (arith, is.some); few = is.few }

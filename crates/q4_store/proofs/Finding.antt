@@ -16,7 +16,8 @@ use Rattle.q4_store.specs.declared.fault.OpenFault.{OpenFault}
 use Rattle.q4_store.specs.declared.fault.OpenFault.TheVariants as fault
 use Rattle.q4_store.specs.Reading.{HasMagic, IsBehind, IsCurrent}
 use Rattle.q4_store.specs.Store.{IsSettled}
-use Rattle.q4_store.specs.Opening.{AddsNone, IsStill, CountsOpen, IsNoChoice, LoadFails, OpenFails, IsDraft, draft_length}
+use Rattle.q4_store.specs.Opening.{CountsOpen, OpenFails}
+use Rattle.q4_store.specs.Looking.{AddsNone, IsStill, IsNoChoice, LoadFails, IsDraft, draft_length}
 use Rattle.q4_store.proofs.Drafts.{are_columns, new_side}
 
 pub settled_found : (old new : Told) (side : Side) (columns : List Column) (table : TableState) (generation end : ℕ) → AreColumns columns → IsStill old → AddsNone old new → IsCurrent side old.bytes → IsSide columns (on side old.bytes) table generation end

@@ -8,7 +8,7 @@ use Rattle.q4_record.specs.Side.{base_at, IsOpen}
 use Rattle.q4_store.specs.declared.fault.OpenFault.{OpenFault}
 use Rattle.q4_store.specs.declared.head.Head.{Head}
 use Rattle.q4_store.specs.declared.head.Head.TheVariants as head
-use Rattle.q4_store.specs.Opening.{IsHead, LoadFails}
+use Rattle.q4_store.specs.Looking.{IsHead, LoadFails}
 use Rattle.q4_store.proofs.Fronts.{told_front, gate_front, magic_front}
 
 -- what is read of a side from its front on

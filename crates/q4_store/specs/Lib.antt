@@ -5,3 +5,4 @@ pub mod Content
 pub mod Store
 pub mod Waiting
 pub mod Opening
+pub mod Looking

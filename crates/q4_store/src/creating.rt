@@ -9,7 +9,7 @@ ghost use Rattle.q4_disk.specs.Time.{LeavesOnly, OtherStays};
 ghost use Rattle.q4_disk.specs.Calls.{CountsFault};
 ghost use Rattle.q4_store.specs.Reading.{ReadsAs};
 ghost use Rattle.q4_store.specs.Store.{IsSettled};
-ghost use Rattle.q4_store.specs.Opening.{StartsNew, IsDraft, header_bytes, draft_length};
+ghost use Rattle.q4_store.specs.Looking.{StartsNew, IsDraft, header_bytes, draft_length};
 
 use crate::parts::{blank, close, fill, switch};
 use q4_disk::{Disk, DiskFailed, Side};

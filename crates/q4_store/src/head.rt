@@ -3,7 +3,7 @@ ghost use Rattle.q4_record.specs.Side.{told_at, magic_of};
 ghost use Rattle.q4_disk.specs.Told.{Sides, Told};
 ghost use Rattle.q4_disk.specs.Images.{on};
 ghost use Rattle.q4_disk.specs.Calls.{CountsFault};
-ghost use Rattle.q4_store.specs.Opening.{AddsNone, IsHead, IsChoice, IsNoChoice};
+ghost use Rattle.q4_store.specs.Looking.{AddsNone, IsHead, IsChoice, IsNoChoice};
 
 use crate::fault::OpenFault;
 use q4_disk::{Disk, DiskFailed, Side};

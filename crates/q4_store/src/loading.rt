@@ -3,7 +3,8 @@ ghost use Rattle.q4_value.specs.Names.{AreColumns};
 ghost use Rattle.q4_record.specs.Side.{IsOpen, Side as IsSide};
 ghost use Rattle.q4_disk.specs.Told.{Sides, Told};
 ghost use Rattle.q4_disk.specs.Images.{on};
-ghost use Rattle.q4_store.specs.Opening.{AddsNone, CountsOpen, LoadFails};
+ghost use Rattle.q4_store.specs.Opening.{CountsOpen};
+ghost use Rattle.q4_store.specs.Looking.{AddsNone, LoadFails};
 
 use crate::fault::OpenFault;
 use q4_disk::{Disk, Side};

@@ -8,7 +8,8 @@ ghost use Rattle.q4_disk.specs.Calls.{CountsFault};
 ghost use Rattle.q4_store.specs.Reading.{Reads, ReadsAs};
 ghost use Rattle.q4_store.specs.Parts.{IsShut};
 ghost use Rattle.q4_store.specs.Store.{IsSettled};
-ghost use Rattle.q4_store.specs.Opening.{AddsNone, IsStill, IsHead, CountsOpen, OpenFails, IsChoice};
+ghost use Rattle.q4_store.specs.Opening.{CountsOpen, OpenFails};
+ghost use Rattle.q4_store.specs.Looking.{AddsNone, IsStill, IsHead, IsChoice};
 
 use crate::creating::{create, make_draft};
 use crate::fault::OpenFault;

@@ -10,7 +10,7 @@ use Rattle.q4_disk.specs.Time.{LeavesOnly, OtherStays}
 use Rattle.q4_disk.proofs.Moments.{other_then}
 use Rattle.q4_store.specs.Reading.{ReadsAs, IsBehind}
 use Rattle.q4_store.specs.Parts.{IsShut, IsBlank, IsReady, IsFilled}
-use Rattle.q4_store.specs.Opening.{StartsNew, IsDraft, draft_length}
+use Rattle.q4_store.specs.Looking.{StartsNew, IsDraft, draft_length}
 use Rattle.q4_store.proofs.Quiet.{reads_then, reads_or_then, made_reads, now_reads}
 use Rattle.q4_store.proofs.Drafts.{filled_as, is_filled}
 use Rattle.q4_store.proofs.creating.create.Given as given

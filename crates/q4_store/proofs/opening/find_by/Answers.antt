@@ -1,5 +1,5 @@
 use Rattle.std.proofs.Common.{subst}
-use Rattle.q4_store.specs.Opening.{IsChoice}
+use Rattle.q4_store.specs.Looking.{IsChoice}
 use Rattle.q4_store.proofs.Finding.{counts_none, unclear_fails}
 use Rattle.q4_store.proofs.opening.find_by.Goals as goal
 
