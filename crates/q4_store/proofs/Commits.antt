@@ -1,0 +1,117 @@
+-- What a commit makes of a store.
+use Rattle.std.proofs.Common.{◌≡◌, ◌≢◌, ℕ, ◌+◌, ◌*◌, ◌≤◌, Bool, true, false, List, [], ◌∷◌, ◌++◌, None, Some, length, ◌↔◌, IsTrue, refl, sym, ◌∙◌, ap, subst, arith, append_assoc}
+use Rattle.q4_table.specs.TableState.{TableState}
+use Rattle.q4_value.specs.Spelling.{row_bytes}
+use Rattle.q4_record.specs.declared.head.Head.{Head}
+use Rattle.q4_record.specs.declared.head.Head.TheVariants.{Insert, End, Mark, Next}
+use Rattle.q4_record.specs.Record.{Record, head_bytes, records_bytes}
+use Rattle.q4_record.specs.Side.{side_limit, Side as IsSide}
+use Rattle.q4_disk.specs.declared.disk.Side.{Side}
+use Rattle.q4_disk.specs.Told.{Sides, Told}
+use Rattle.q4_disk.specs.Images.{on, other, Within}
+use Rattle.q4_disk.specs.Time.{LeavesOnly, OtherStays}
+use Rattle.q4_disk.proofs.Moments.{weaker, left_now}
+use Rattle.q4_store.specs.Parts.{IsShut}
+use Rattle.q4_store.specs.Commit.{sealed, EndsBehind, IsOpenBehind, MayHaveBatch, grown}
+use Rattle.q4_store.specs.Content.{Content, changed, table_of, all_committed, IsPrefix}
+use Rattle.q4_store.specs.Store.{Stored, StandsFor, IsSettled, pending_length, length_of}
+use Rattle.q4_store.proofs.Lifting.{reads_current, front, p, ends, may_read, settled_then}
+
+-- a record has bytes
+some_bytes : (head : Head) (more : List ℕ) → head_bytes head ++ more ≢ []
+some_bytes (Insert number None) more = λ none. absurd (cc none)
+some_bytes (Insert number (Some origin)) more = λ none. absurd (cc none)
+some_bytes (End number) more = λ none. absurd (cc none)
+some_bytes (Mark source number) more = λ none. absurd (cc none)
+some_bytes (Next number) more = λ none. absurd (cc none)
+
+no_change : (changes : List Record) → records_bytes changes ≡ [] → changes ≡ []
+no_change [] none = refl
+no_change (r ∷ rs) none = absurd (some_bytes r.head (row_bytes r.row ++ records_bytes rs) (sym (append_assoc (head_bytes r.head) (row_bytes r.row) (records_bytes rs)) ∙ none))
+
+-- where no bytes wait all is committed
+pub nothing_waits : (content : Content) → records_bytes content.pending ≡ [] → content ≡ all_committed content
+nothing_waits content none =
+    let e = no_change content.pending none in
+    let same : changed content.committed content.pending ≡ content.committed = ap (changed content.committed) e in
+    (λ i. record { committed = content.committed; pending = e i }) ∙ ap (λ (t : TableState). let c : Content = record { committed = t; pending = [] } in c) (sym same)
+
+pub some_wait : (records : List ℕ) → records ≢ [] → pending_length records ≡ 5 + length records
+some_wait [] some = absurd (some refl)
+some_wait (b ∷ bs) some = refl
+
+pub shut_stays : (side : Side) (old new : Told) → OtherStays side old new → Within old.images (λ c. IsShut (on (other side) c)) → Within new.images (λ c. IsShut (on (other side) c))
+shut_stays side old new stays was c left = let from = stays.each c left in subst IsShut (sym from.2) (was from.0 from.1)
+
+-- a settled store has what it stands for in each image
+pub settled_reads : (told : Told) (side : Side) (table : TableState) (generation end : ℕ) → IsSettled told side table generation end → (c : Sides) → told.images c → IsPrefix (record { committed = table; pending = [] }) generation c
+settled_reads told side table generation end s c left = record {
+  count = 0;
+  within = omega arith;
+  reads = reads_current table.columns side c table generation end (subst (λ (l : List ℕ). IsSide table.columns l table generation end) (sym (s.only c left)) s.stands) (s.behind c left);
+}
+
+-- after a commit that failed
+pub stands_open : {D : Type 0} (told : D → Told) (store : Stored D) (content : Content) (new : D) → StandsFor told store content → (told new).honest ≡ (told store.disk).honest
+    → (IsTrue (told new).honest → (t : ℕ) (c : Sides) → t ≤ (told new).moment → (told new).images c → (told new).since t c) → (IsTrue (told store.disk).honest → LeavesOnly (told store.disk) (told new) (IsPrefix content store.generation))
+    → (IsTrue (told store.disk).honest → OtherStays store.side (told store.disk) (told new)) → StandsFor told (record store { disk = new; failed = true }) content
+stands_open told store content new s same counts run stays = record {
+  valid = s.valid;
+  unowned = s.unowned;
+  stand = s.stand;
+  records = s.records;
+  rows = s.rows;
+  images = λ honest c left. left_now (told store.disk) (told new) (IsPrefix content store.generation) (counts honest) (run (sym same ∙ honest)) c left;
+  settled = λ honest whole. absurd (cc whole);
+  known = λ honest is. shut_stays store.side (told store.disk) (told new) (stays (sym same ∙ honest)) (s.known (sym same ∙ honest) is);
+}
+
+-- after a commit that succeeded
+pub stands_done : {D : Type 0} (told : D → Told) (store : Stored D) (content : Content) (new : D) (end : ℕ) (records : List ℕ) → StandsFor told store content → (told new).honest ≡ (told store.disk).honest
+    → (IsTrue (told store.disk).honest → IsSettled (told new) store.side (table_of content) store.generation end) → (IsTrue (told store.disk).honest → OtherStays store.side (told store.disk) (told new)) → records ≡ []
+    → StandsFor told (record store { disk = new; end = end; records = records; reserved = 0; failed = false }) (all_committed content)
+stands_done told store content new end records s same settled stays none = record {
+  valid = s.valid;
+  unowned = s.unowned;
+  stand = tt;
+  records = none;
+  rows = s.rows;
+  images = λ honest c left. settled_reads (told new) store.side (table_of content) store.generation end (settled (sym same ∙ honest)) c left;
+  settled = λ honest whole. settled (sym same ∙ honest);
+  known = λ honest is. shut_stays store.side (told store.disk) (told new) (stays (sym same ∙ honest)) (s.known (sym same ∙ honest) is);
+}
+
+pub not_so : {A : Type 0} (b : Bool) → (IsTrue b ↔ A) → b ≡ false → A → ⊥
+not_so b iff is a = let holds = iff.1 a in cc (holds, is)
+
+module _ {D : Type 0} (told : D → Told) (store : Stored D) (content : Content) (s : StandsFor told store content) (some : store.records ≢ []) (room : length_of store + 32 * store.rows ≤ side_limit) (whole : store.failed ≡ false) (honest : IsTrue (told store.disk).honest) where
+  abbrev pub old : Told
+  old = told store.disk
+
+  abbrev pub settled : IsSettled old store.side content.committed store.generation store.end
+  settled = s.settled honest whole
+
+  pub fits : store.end + (5 + length (records_bytes content.pending)) + 32 * length (table_of content).rows ≤ side_limit
+  fits = omega (arith, room, some_wait store.records some, ap length s.records, s.rows)
+
+  abbrev pub the_front : List ℕ
+  the_front = front old store.side content store.generation store.end settled s.stand fits
+
+  abbrev pub batch : List ℕ
+  batch = sealed (records_bytes content.pending)
+
+  pub ends_behind : EndsBehind old store.side the_front
+  ends_behind = ends old store.side content store.generation store.end settled s.stand fits
+
+  pub end_is : store.end ≡ length the_front + 1
+  end_is = (p old store.side content store.generation store.end settled s.stand fits).end
+
+  pub leaves : (new : Told) (bytes : List ℕ) → bytes ≡ sealed store.records → LeavesOnly old new (MayHaveBatch old.images store.side the_front bytes (grown old store.side store.end bytes)) → LeavesOnly old new (IsPrefix content store.generation)
+  leaves new bytes is written = let run = subst (λ (l : List ℕ). LeavesOnly old new (MayHaveBatch old.images store.side the_front l (grown old store.side store.end l))) (is ∙ ap sealed s.records) written in weaker old new _ (IsPrefix content store.generation) run (may_read old store.side content store.generation store.end settled s.stand fits)
+
+  pub settled_new : (new : Told) (bytes : List ℕ) (more : ℕ) → bytes ≡ sealed store.records → more ≡ pending_length store.records → IsOpenBehind the_front bytes (grown old store.side store.end bytes) (on store.side new.bytes)
+      → Within new.images (λ c. on store.side c ≡ on store.side new.bytes) → OtherStays store.side old new → IsSettled new store.side (table_of content) store.generation (store.end + more)
+  settled_new new bytes more is more_is is_open only stays =
+      let open_is = subst (λ (l : List ℕ). IsOpenBehind the_front l (grown old store.side store.end l) (on store.side new.bytes)) (is ∙ ap sealed s.records) is_open in
+      let added : more ≡ 5 + length (records_bytes content.pending) = more_is ∙ some_wait store.records some ∙ ap (λ (l : List ℕ). 5 + length l) s.records in
+      subst (λ (n : ℕ). IsSettled new store.side (table_of content) store.generation (store.end + n)) (sym added) (settled_then old store.side content store.generation store.end settled s.stand fits new open_is only stays)

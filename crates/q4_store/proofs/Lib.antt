@@ -1,0 +1,16 @@
+pub mod Idle
+pub mod Filling
+pub mod Switching
+pub mod Landing
+pub mod Fronts
+pub mod Lifting
+pub mod RowParts
+pub mod Sealing
+pub mod Appending
+pub mod Commits
+pub mod FirstBytes
+pub mod Quiet
+pub mod Drafts
+pub mod Finding
+pub mod Opened
+pub mod Apart

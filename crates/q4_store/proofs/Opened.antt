@@ -1,0 +1,51 @@
+-- A store that was opened.
+use Rattle.std.proofs.Common.{◌≡◌, ℕ, ◌*◌, ◌≤◌, true, List, [], ◌∷◌, length, IsTrue, ap, arith, length-append}
+use Rattle.q4_value.specs.declared.column.Column.{Column}
+use Rattle.q4_value.specs.Names.{AreColumns}
+use Rattle.q4_table.specs.TableState.{TableState}
+use Rattle.q4_record.specs.Side.{Side as IsSide}
+use Rattle.q4_record.proofs.Leading.{sound_side}
+use Rattle.q4_disk.specs.Told.{Told}
+use Rattle.q4_disk.specs.Images.{on, other, Within}
+use Rattle.q4_store.specs.Parts.{IsShut}
+use Rattle.q4_store.specs.Store.{Stored, StandsFor, IsSettled, IsHeld, pending_length}
+use Rattle.q4_store.proofs.Fronts.{parted}
+use Rattle.q4_store.proofs.Drafts.{are_columns}
+use Rattle.q4_store.proofs.Commits.{settled_reads}
+
+-- a side is at least as long as up to its closing gate
+end_within : (columns : List Column) (bytes : List ℕ) (table : TableState) (generation end : ℕ) → IsSide columns bytes table generation end → (1 ≤ end) × (end ≤ length bytes)
+end_within columns bytes table generation end side =
+    let p = parted columns bytes table generation end side in
+    let size = ap length p.is in
+    (omega (arith, p.end), omega (arith, p.end, size, length-append p.front (p.gate ∷ p.tail)))
+
+module _ {D : Type 0} (told : D → Told) (store : Stored D) (columns : List Column) (bytes : List ℕ) (table : TableState) (side : IsSide columns bytes table store.generation store.end)
+    (settled : IsTrue (told store.disk).honest → IsSettled (told store.disk) store.side table store.generation store.end) (none : store.records ≡ []) (rows : store.rows ≡ length table.rows) where
+  pub opened_held : (memory copied : ℕ) → store.reserved ≡ 0 → 9 * store.rows ≤ memory → 9 * store.rows ≤ copied → IsHeld told store memory copied
+  opened_held memory copied reserve batch copy = record {
+    kept = record {
+      gate = (end_within columns bytes table store.generation store.end side).0;
+      within = λ honest whole. (end_within table.columns (on store.side (told store.disk).bytes) table store.generation store.end (settled honest).stands).1;
+      room = let length_is = ap pending_length none in omega (arith, side.room, rows, length_is);
+      reserve = λ some. absurd (omega (arith, some, reserve));
+    };
+    batch = batch;
+    copy = copy;
+    reserve_batch = λ some. absurd (omega (arith, some, reserve));
+    reserve_copy = λ some. absurd (omega (arith, some, reserve));
+  }
+
+  pub opened_stands : AreColumns columns → (IsTrue (told store.disk).honest → store.known ≡ true → Within (told store.disk).images (λ c. IsShut (on (other store.side) c))) → StandsFor told store (record { committed = table; pending = [] })
+  opened_stands are known =
+      let sound = sound_side columns bytes table store.generation store.end (are_columns columns are) side in
+      record {
+        valid = sound.valid;
+        unowned = sound.unowned;
+        stand = tt;
+        records = none;
+        rows = rows;
+        images = λ honest c left. settled_reads (told store.disk) store.side table store.generation store.end (settled honest) c left;
+        settled = λ honest whole. settled honest;
+        known = known;
+      }

@@ -1,0 +1,20 @@
+use Rattle.std.proofs.Common.{subst}
+use Rattle.q4_store.specs.Looking.{IsChoice}
+use Rattle.q4_store.proofs.Finding.{counts_none, unclear_fails}
+use Rattle.q4_store.proofs.opening.find_by.Goals as goal
+
+pub find_current-requires-clause-chosen : goal.find_current-requires-clause-chosen
+find_current-requires-clause-chosen g c h =
+    let bytes = (g.D.Disk.told c.args.disk.now).bytes in
+    subst (IsChoice bytes) c.in-Ok-Current.field-0-is (c.in-Ok-Current.ensures.choice bytes (c.requires.head_a h) (c.requires.head_b h))
+
+pub make_new-requires-clause-chosen : goal.make_new-requires-clause-chosen
+make_new-requires-clause-chosen g c h =
+    let bytes = (g.D.Disk.told c.args.disk.now).bytes in
+    subst (IsChoice bytes) c.in-Ok-Neither.field-0-is (c.in-Ok-Neither.ensures.choice bytes (c.requires.head_a h) (c.requires.head_b h))
+
+pub returns-in-Err-clause-faults : goal.returns-in-Err-clause-faults
+returns-in-Err-clause-faults g c = counts_none c.in-Err.fault _ c.in-Err.ensures.no_disk
+
+pub returns-in-Err-clause-fails : goal.returns-in-Err-clause-fails
+returns-in-Err-clause-fails g c h = unclear_fails c.args.columns.now _ c.in-Err.fault (c.in-Err.ensures.unclear _ (c.requires.head_a h) (c.requires.head_b h))

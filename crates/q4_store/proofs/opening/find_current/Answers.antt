@@ -1,0 +1,11 @@
+use Rattle.q4_store.proofs.Finding.{settled_found, load_fails}
+use Rattle.q4_store.proofs.opening.find_current.Goals as goal
+
+pub returns-in-Ok-clause-settled : goal.returns-in-Ok-clause-settled
+returns-in-Ok-clause-settled g c h =
+    settled_found _ _ c.args.side c.args.columns.now c.in-Ok.loaded.table c.in-Ok.loaded.generation c.in-Ok.loaded.end c.requires.columns (c.requires.still h) (c.load.ensures.rests h) (c.requires.chosen h).0 (c.in-Ok.ensures.loaded h)
+
+pub returns-in-Err-clause-fails : goal.returns-in-Err-clause-fails
+returns-in-Err-clause-fails g c h =
+    let chosen = c.requires.chosen h in
+    load_fails c.args.columns.now _ c.args.side c.in-Err.fault chosen.0 chosen.1 (c.in-Err.ensures.fails h chosen.0.is_open)

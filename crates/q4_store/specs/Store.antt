@@ -1,0 +1,111 @@
+-- What contracts see of a store, and what it stands for.
+use Rattle.std.specs.Prelude.{◌≡◌, ◌<◌, ◌≤◌, ◌+◌, ◌*◌, ℕ, Bool, true, false, List, [], ◌∷◌, Option, None, All, IsTrue, length}
+use Rattle.std.specs.Option.{ForSome}
+use Rattle.q4_value.specs.declared.row.Value.{Value}
+use Rattle.q4_value.specs.Row.{Fits}
+use Rattle.q4_table.specs.declared.adding.Check.TheVariants as check
+use Rattle.q4_table.specs.declared.origin.Origin.{Origin}
+use Rattle.q4_table.specs.Adding.{IsOrigin, check_of}
+use Rattle.q4_table.specs.Rows.{IsThere}
+use Rattle.q4_table.specs.TableState.{TableState}
+use Rattle.q4_table.specs.Valid.{IsValidTable}
+use Rattle.q4_record.specs.Record.{records_bytes}
+use Rattle.q4_record.specs.Replay.{at_batches, AllStand}
+use Rattle.q4_record.specs.Side.{side_limit, Side as IsSide}
+use Rattle.q4_disk.specs.declared.disk.Side.{Side}
+use Rattle.q4_disk.specs.Told.{Told}
+use Rattle.q4_disk.specs.Images.{on, other, size, Within}
+use Rattle.q4_store.specs.declared.fault.AppendFault.{AppendFault}
+use Rattle.q4_store.specs.declared.fault.AppendFault.TheVariants as fault
+use Rattle.q4_store.specs.Reading.{IsBehind}
+use Rattle.q4_store.specs.Parts.{IsShut}
+use Rattle.q4_store.specs.Content.{Content, table_of, IsPrefix}
+
+pub record Stored (D : Type 0) : Type 0 where
+  pub disk : D
+  -- the current side, its length up to and with the closing gate, and its generation
+  pub side : Side
+  pub end : ℕ
+  pub generation : ℕ
+  -- the bytes of the records that wait for a commit
+  pub records : List ℕ
+  -- the number of rows, for whose ends memory is kept
+  pub rows : ℕ
+  -- the bytes of the record for which there is room and memory
+  pub reserved : ℕ
+  -- whether the gate of the other side is known to be there, closed and synced
+  pub known : Bool
+  -- whether a commit failed
+  pub failed : Bool
+
+-- what records add to a side: themselves, and where none waits yet a gate and their length in 4 bytes
+abbrev pub batch_size : List ℕ → ℕ → ℕ
+batch_size [] size = 5 + size
+batch_size (b ∷ bs) size = size
+
+abbrev pub pending_length : List ℕ → ℕ
+pending_length [] = 0
+pending_length (b ∷ bs) = 5 + length (b ∷ bs)
+
+-- with what is pending
+abbrev pub length_of : {D : Type 0} → Stored D → ℕ
+length_of store = store.end + pending_length store.records
+
+-- a record of this size more, and 32 bytes for each row and one more, pass the limit of a side
+abbrev pub IsOver : ℕ → ℕ → ℕ → Type 0
+IsOver length cost live = side_limit < length + cost + 32 * (live + 1)
+
+abbrev pub cost_of : {D : Type 0} → Stored D → ℕ → ℕ
+cost_of store size = batch_size store.records size
+
+-- In each image the current side is the one that is read, which stands for the table, and the other side is behind it.
+pub record IsSettled (told : Told) (side : Side) (table : TableState) (generation end : ℕ) : Type 0 where
+  pub stands : IsSide table.columns (on side told.bytes) table generation end
+  pub only : Within told.images (λ c. on side c ≡ on side told.bytes)
+  pub behind : Within told.images (λ c. IsBehind generation (on (other side) c))
+
+-- The store stands for this content.
+pub record StandsFor {D : Type 0} (told : D → Told) (store : Stored D) (content : Content) : Type 0 where
+  pub valid : IsValidTable (table_of content)
+  pub unowned : All (λ r. r.owner ≡ None) (table_of content).rows
+  pub stand : AllStand (at_batches content.committed) content.pending
+  pub records : store.records ≡ records_bytes content.pending
+  pub rows : store.rows ≡ length (table_of content).rows
+  -- Opening what a crash now leaves gives what is committed and a prefix of what is pending.
+  pub images : IsTrue (told store.disk).honest → Within (told store.disk).images (IsPrefix content store.generation)
+  -- Where no commit failed it gives exactly what is committed.
+  pub settled : IsTrue (told store.disk).honest → store.failed ≡ false
+      → IsSettled (told store.disk) store.side content.committed store.generation store.end
+  pub known : IsTrue (told store.disk).honest → store.known ≡ true
+      → Within (told store.disk).images (λ c. IsShut (on (other store.side) c))
+
+-- What always holds: the closing gate of an honest disk is there, and there is room for the end of each row.
+pub record IsKept {D : Type 0} (told : D → Told) (store : Stored D) : Type 0 where
+  pub gate : 1 ≤ store.end
+  pub within : IsTrue (told store.disk).honest → store.failed ≡ false → store.end ≤ size store.side (told store.disk).bytes
+  pub room : length_of store + 32 * store.rows ≤ side_limit
+  pub reserve : 0 < store.reserved → length_of store + cost_of store store.reserved + 32 * (store.rows + 1) ≤ side_limit
+
+-- And there is memory for it, in the batch and for a copy, and for a reserved row and its end.
+pub record IsHeld {D : Type 0} (told : D → Told) (store : Stored D) (memory copy_memory : ℕ) : Type 0 where
+  pub kept : IsKept told store
+  pub batch : 9 * store.rows ≤ memory
+  pub copy : 9 * store.rows ≤ copy_memory
+  pub reserve_batch : 0 < store.reserved → store.reserved + 9 * (store.rows + 1) ≤ memory
+  pub reserve_copy : 0 < store.reserved → 9 * (store.rows + 1) ≤ copy_memory
+
+-- The table with all changes adds this row as this number.
+pub record TakesRow (content : Content) (number : ℕ) (row : List Value) (origin : Option Origin) : Type 0 where
+  pub fits : Fits (table_of content).columns row
+  pub valid : ForSome origin IsOrigin
+  pub new : check_of (table_of content) row origin ≡ check.New
+  pub is_next : number ≡ (table_of content).next
+
+-- it has this row
+abbrev pub HasRow : Content → ℕ → Type 0
+HasRow content number = IsThere (table_of content).rows number
+
+-- Why no record of this size is taken: the side is full, with its length and what is pending, or memory was wanted.
+abbrev pub IsRefused : {D : Type 0} → Stored D → ℕ → ℕ → AppendFault → Type 0
+IsRefused store size live (fault.FileFull length) = (length ≡ length_of store) × IsOver (length_of store) (cost_of store size) live
+IsRefused store size live fault.Memory = IsOver (length_of store) (cost_of store size) live → ⊥

@@ -1,0 +1,23 @@
+//! The store of a table: two sides of a disk, of which at any moment a crash leaves what was committed.
+#![tactic(auto)]
+
+mod batch;
+mod committing;
+mod creating;
+mod fault;
+mod head;
+mod laws;
+mod limit;
+mod loading;
+mod opening;
+mod parts;
+mod spelling;
+mod store;
+
+pub use fault::{AppendFault, OpenFault};
+pub use laws::opening_laws;
+pub use limit::room;
+pub use store::Store;
+
+#[cfg(test)]
+mod tests;

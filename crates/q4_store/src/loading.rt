@@ -1,0 +1,110 @@
+ghost use Rattle.std.specs.Prelude.{◌≡◌, ◌≤◌, ◌<◌, ◌≢◌, ℕ, List, IsTrue, IfOk, IfErr, OnOk, length};
+ghost use Rattle.q4_value.specs.Names.{AreColumns};
+ghost use Rattle.q4_record.specs.Side.{IsOpen, Side as IsSide};
+ghost use Rattle.q4_disk.specs.Told.{Sides, Told};
+ghost use Rattle.q4_disk.specs.Images.{on};
+ghost use Rattle.q4_store.specs.Opening.{CountsOpen};
+ghost use Rattle.q4_store.specs.Looking.{AddsNone, LoadFails};
+
+use crate::fault::OpenFault;
+use q4_disk::{Disk, Side};
+use q4_record::{SideFault, read_side};
+use q4_table::Table;
+use q4_value::Columns;
+use std::alloc::Global;
+
+// The most bytes of a side.
+const SIDE_LIMIT: u64 = 536_870_912;
+
+/// What a side holds.
+#[derive(Drop)]
+pub(crate) struct Loaded {
+    pub table: Table,
+    pub generation: u64,
+    /// The length up to and with the closing gate.
+    pub end: u64,
+}
+
+/// Reads a side that is open, in one piece.
+pub(crate) fn load<D: Disk>(
+    alloc: Global,
+    disk: &mut D,
+    side: Side,
+    columns: &Columns,
+) -> Result<Loaded, OpenFault>
+    requires { AreColumns columns.now }
+    ensures honest { (D.told disk.new).honest ≡ (D.told disk.old).honest }
+    ensures calm { OnOk result ((D.told disk.new).faults ≡ (D.told disk.old).faults) }
+    ensures faults { IfErr result (λ fault. CountsOpen fault (D.told disk.old).faults (D.told disk.new).faults) }
+    ensures rests { IsTrue (D.told disk.old).honest → AddsNone (D.told disk.old) (D.told disk.new) }
+    ensures sound { IfOk result (λ loaded. (bytes : List ℕ) × IsSide columns.now bytes loaded.table loaded.generation loaded.end) }
+    ensures loaded { IfOk result (λ loaded. IsTrue (D.told disk.old).honest → IsSide columns.now (on side (D.told disk.old).bytes) loaded.table loaded.generation loaded.end) }
+    ensures fails { IfErr result (λ fault. IsTrue (D.told disk.old).honest → IsOpen (on side (D.told disk.old).bytes) → LoadFails columns.now (on side (D.told disk.old).bytes) side fault) }
+{
+    let Ok(size) = disk.size(side) else {
+        return Err(OpenFault::Disk);
+    };
+    if size > SIDE_LIMIT {
+        return Err(OpenFault::Large(6));
+    }
+    let mut bytes = zeros(alloc, size as usize)?;
+    load_into(alloc, disk, side, &mut bytes, columns)
+}
+
+// The same, by way of bytes that are as long as the side.
+fn load_into<D: Disk>(
+    alloc: Global,
+    disk: &mut D,
+    side: Side,
+    bytes: &mut [u8],
+    columns: &Columns,
+) -> Result<Loaded, OpenFault>
+    requires columns { AreColumns columns.now }
+    requires size { IsTrue (D.told disk.old).honest → length bytes.old ≡ length (on side (D.told disk.old).bytes) }
+    ensures honest { (D.told disk.new).honest ≡ (D.told disk.old).honest }
+    ensures calm { OnOk result ((D.told disk.new).faults ≡ (D.told disk.old).faults) }
+    ensures faults { IfErr result (λ fault. CountsOpen fault (D.told disk.old).faults (D.told disk.new).faults) }
+    ensures rests { IsTrue (D.told disk.old).honest → AddsNone (D.told disk.old) (D.told disk.new) }
+    ensures sound { IfOk result (λ loaded. (bytes : List ℕ) × IsSide columns.now bytes loaded.table loaded.generation loaded.end) }
+    ensures loaded { IfOk result (λ loaded. IsTrue (D.told disk.old).honest → IsSide columns.now (on side (D.told disk.old).bytes) loaded.table loaded.generation loaded.end) }
+    ensures fails { IfErr result (λ fault. IsTrue (D.told disk.old).honest → IsOpen (on side (D.told disk.old).bytes) → LoadFails columns.now (on side (D.told disk.old).bytes) side fault) }
+{
+    let Ok(count) = disk.read(side, 0, bytes) else {
+        return Err(OpenFault::Disk);
+    };
+    parse(alloc, side, &bytes[..count], columns)
+}
+
+fn zeros(alloc: Global, size: usize) -> Result<Vec<u8>, OpenFault>
+    ensures size { IfOk result (λ bytes. length bytes.items ≡ size) }
+    ensures memory { IfErr result (λ fault. fault ≡ OpenFault.Memory) }
+{
+    match Vec::from_elem(alloc, 0, size) {
+        Ok(bytes) => Ok(bytes),
+        Err(_) => Err(OpenFault::Memory),
+    }
+}
+
+// The table of the bytes of a side that is open.
+fn parse(alloc: Global, side: Side, bytes: &[u8], columns: &Columns) -> Result<Loaded, OpenFault>
+    requires { AreColumns columns.now }
+    ensures side { IfOk result (λ loaded. IsSide columns.now bytes.now loaded.table loaded.generation loaded.end) }
+    ensures no_disk { IfErr result (λ fault. fault ≢ OpenFault.Disk) }
+    ensures fails { IfErr result (λ fault. IsOpen bytes.now → LoadFails columns.now bytes.now side fault) }
+{
+    let Ok(columns) = columns.copy(alloc) else {
+        return Err(OpenFault::Memory);
+    };
+    match read_side(alloc, bytes, columns) {
+        Ok((table, generation, end)) => Ok(Loaded {
+            table,
+            generation,
+            end,
+        }),
+        Err(SideFault::Closed) => Err(OpenFault::Damaged(side, 0)),
+        Err(SideFault::Damaged(place)) => Err(OpenFault::Damaged(side, place)),
+        Err(SideFault::Schema(column)) => Err(OpenFault::Schema(column)),
+        Err(SideFault::Large(limit)) => Err(OpenFault::Large(limit)),
+        Err(SideFault::Memory) => Err(OpenFault::Memory),
+    }
+}

@@ -1,0 +1,101 @@
+// The parts in which a table is written onto the side that isn't current, of at most four device calls each: prepare,
+// fill and switch.
+
+ghost use Rattle.std.specs.Prelude.{◌≡◌, ◌+◌, ◌≤◌, ◌⊎◌, ℕ, List, [], ◌∷◌, IsTrue, OnOk, length};
+ghost use Rattle.q4_value.specs.declared.column.Column.{Column};
+ghost use Rattle.q4_table.specs.TableState.{TableState};
+ghost use Rattle.q4_disk.specs.Told.{Sides, Told};
+ghost use Rattle.q4_disk.specs.Images.{on, size, written, Within};
+ghost use Rattle.q4_disk.specs.Time.{LeavesOnly, OtherStays};
+ghost use Rattle.q4_disk.specs.Calls.{CountsFault};
+ghost use Rattle.q4_store.specs.Reading.{Reads, ReadsAs};
+ghost use Rattle.q4_store.specs.Parts.{IsShut, IsBlank, IsReady, IsFilled, opened};
+
+use q4_disk::{Disk, DiskFailed, Side};
+
+/// Sees to it that the gate of a side is there, closed and synced. Where that is known it does nothing.
+pub(crate) fn close<D: Disk>(disk: &mut D, side: Side, known: bool) -> Result<(), DiskFailed>
+    ensures honest { (D.told disk.new).honest ≡ (D.told disk.old).honest }
+    ensures faults { CountsFault result (D.told disk.old).faults (D.told disk.new).faults }
+    // At each moment inside it each image reads as one that there was.
+    ensures any_moment { (columns : List Column) → IsTrue (D.told disk.old).honest → Within (D.told disk.old).images (IsReady known side)
+        → LeavesOnly (D.told disk.old) (D.told disk.new) (ReadsAs columns (D.told disk.old).images) }
+    ensures shut { OnOk result (IsTrue (D.told disk.old).honest → Within (D.told disk.old).images (IsReady known side)
+        → Within (D.told disk.new).images (λ c. IsShut (on side c))) }
+    ensures other { IsTrue (D.told disk.old).honest → OtherStays side (D.told disk.old) (D.told disk.new) }
+{
+    if known {
+        return Ok(());
+    }
+    disk.write(side, 0, &[0])?;
+    disk.sync(side)?; // the closed gate, before bytes behind it change
+    Ok(())
+}
+
+/// Cuts a side, whose gate is closed, to that gate, and writes zeros for its header. The gate stays closed, whether it
+/// fails or not.
+pub(crate) fn blank<D: Disk>(disk: &mut D, side: Side) -> Result<(), DiskFailed>
+    requires { IsTrue (D.told disk.old).honest → 1 ≤ size side (D.told disk.old).bytes }
+    ensures honest { (D.told disk.new).honest ≡ (D.told disk.old).honest }
+    ensures faults { CountsFault result (D.told disk.old).faults (D.told disk.new).faults }
+    // At each moment inside it each image reads as one that there was.
+    ensures any_moment { (columns : List Column) → IsTrue (D.told disk.old).honest → Within (D.told disk.old).images (λ c. IsShut (on side c))
+        → LeavesOnly (D.told disk.old) (D.told disk.new) (ReadsAs columns (D.told disk.old).images) }
+    ensures shut { IsTrue (D.told disk.old).honest → Within (D.told disk.old).images (λ c. IsShut (on side c))
+        → Within (D.told disk.new).images (λ c. IsShut (on side c)) }
+    ensures bytes { OnOk result (IsTrue (D.told disk.old).honest → IsShut (on side (D.told disk.old).bytes) → IsBlank (on side (D.told disk.new).bytes)) }
+    ensures other { IsTrue (D.told disk.old).honest → OtherStays side (D.told disk.old) (D.told disk.new) }
+{
+    disk.cut(side, 1)?;
+    disk.write(side, 1, &[0; 20])?;
+    Ok(())
+}
+
+/// Writes what is left of a table and the closing gate, and then the header, behind a gate that is closed, and syncs.
+/// The gate stays closed, whether it fails or not.
+pub(crate) fn fill<D: Disk>(
+    disk: &mut D,
+    side: Side,
+    at: u64,
+    last: &[u8],
+    header: &[u8],
+) -> Result<(), DiskFailed>
+    requires behind { 1 ≤ at }
+    requires place { IsTrue (D.told disk.old).honest → at ≤ size side (D.told disk.old).bytes }
+    ensures honest { (D.told disk.new).honest ≡ (D.told disk.old).honest }
+    ensures faults { CountsFault result (D.told disk.old).faults (D.told disk.new).faults }
+    // At each moment inside it each image reads as one that there was.
+    ensures any_moment { (columns : List Column) → IsTrue (D.told disk.old).honest → Within (D.told disk.old).images (λ c. IsShut (on side c))
+        → LeavesOnly (D.told disk.old) (D.told disk.new) (ReadsAs columns (D.told disk.old).images) }
+    ensures shut { IsTrue (D.told disk.old).honest → Within (D.told disk.old).images (λ c. IsShut (on side c))
+        → Within (D.told disk.new).images (λ c. IsShut (on side c)) }
+    ensures bytes { OnOk result (IsTrue (D.told disk.old).honest → on side (D.told disk.new).bytes ≡ written (written (on side (D.told disk.old).bytes) at last.now) 1 header.now) }
+    ensures only { OnOk result (IsTrue (D.told disk.old).honest → Within (D.told disk.new).images (λ c. on side c ≡ on side (D.told disk.new).bytes)) }
+    ensures other { IsTrue (D.told disk.old).honest → OtherStays side (D.told disk.old) (D.told disk.new) }
+{
+    disk.write(side, at, last)?;
+    disk.write(side, 1, header)?;
+    disk.sync(side)?; // the whole table, before its gate opens
+    Ok(())
+}
+
+/// Opens the gate of a side, and syncs.
+pub(crate) fn switch<D: Disk>(disk: &mut D, side: Side) -> Result<(), DiskFailed>
+    ensures honest { (D.told disk.new).honest ≡ (D.told disk.old).honest }
+    ensures faults { CountsFault result (D.told disk.old).faults (D.told disk.new).faults }
+    // At each moment inside it each image reads as one that there was, or as the whole table.
+    ensures any_moment { (columns : List Column) (table : TableState) (generation len : ℕ) → IsTrue (D.told disk.old).honest
+        → IsFilled (D.told disk.old) side columns table generation len
+        → LeavesOnly (D.told disk.old) (D.told disk.new) (λ c. ReadsAs columns (D.told disk.old).images c ⊎ Reads columns c table generation) }
+    // Whether it fails or not, the side is whole in each image, but for its gate.
+    ensures whole { (columns : List Column) (table : TableState) (generation len : ℕ) → IsTrue (D.told disk.old).honest
+        → IsFilled (D.told disk.old) side columns table generation len
+        → Within (D.told disk.new).images (λ c. opened (on side c) ≡ opened (on side (D.told disk.old).bytes)) }
+    ensures bytes { OnOk result (IsTrue (D.told disk.old).honest → on side (D.told disk.new).bytes ≡ opened (on side (D.told disk.old).bytes)) }
+    ensures only { OnOk result (IsTrue (D.told disk.old).honest → Within (D.told disk.new).images (λ c. on side c ≡ on side (D.told disk.new).bytes)) }
+    ensures other { IsTrue (D.told disk.old).honest → OtherStays side (D.told disk.old) (D.told disk.new) }
+{
+    disk.write(side, 0, &[1])?;
+    disk.sync(side)?; // the open gate
+    Ok(())
+}

@@ -1,0 +1,295 @@
+ghost use Rattle.std.specs.Prelude.{◌≡◌, ◌+◌, ◌-◌, ◌*◌, ◌≤◌, ◌<◌, ◌^◌, ◌++◌, ◌↔◌, ℕ, Bool, true, false, None, List, [], ◌∷◌, All, IsTrue, IsOk, IsErr, IfOk, IfErr, OnOk, OnErr, length, vec_capacity};
+ghost use Rattle.q4_value.specs.Names.{AreColumns};
+ghost use Rattle.q4_value.specs.Row.{IsValue};
+ghost use Rattle.q4_record.specs.Record.{record_bytes};
+ghost use Rattle.q4_disk.specs.Told.{Sides, Told};
+ghost use Rattle.q4_disk.specs.Time.{LeavesOnly};
+ghost use Rattle.q4_disk.specs.Calls.{bump};
+ghost use Rattle.q4_store.specs.Reading.{Reads, ReadsAs};
+ghost use Rattle.q4_store.specs.Opening.{OpenFails, CountsOpen};
+ghost use Rattle.q4_store.specs.Content.{Content, row_added, row_ended, with_change, all_committed, IsPrefix};
+ghost use Rattle.q4_store.specs.Store.{StandsFor, TakesRow, HasRow, IsOver, IsRefused, length_of, cost_of, pending_length, batch_size};
+
+use crate::batch::Batch;
+use crate::committing::commit_batch;
+use crate::fault::{AppendFault, OpenFault};
+use crate::limit::room;
+use crate::opening::find;
+use q4_def::TableDef;
+use q4_disk::{Disk, DiskFailed, Side};
+use q4_table::{Origin, Table};
+use q4_value::{NoMemory, Row};
+use std::alloc::Global;
+use std::marker::Model;
+
+// What a batch has besides its records: a gate and their length.
+const BATCH_SIZE: u64 = 5;
+
+// The size of the record of a row's end.
+const END_SIZE: usize = 9;
+
+/// A table on a disk: it stands for the changes that were appended, and for what of them is committed.
+///
+/// Appends take no memory and cannot fail: `reserve` takes the room and the memory before. A commit makes all that was
+/// appended durable at once. After a commit that failed no further call reaches the disk; what a crash leaves is read
+/// by opening the disk again.
+#[derive(Drop)]
+pub struct Store<D: Disk> {
+    disk: D,
+    side: Side,
+    end: u64,
+    generation: u64,
+    batch: Batch,
+    // memory for the ends that a copy of the table will want
+    ends: Vec<u8>,
+    rows: u32,
+    reserved: u64,
+    known: bool,
+    failed: bool,
+}
+
+impl<D: Disk> Model for Store<D> {
+    ghost use Rattle.std.specs.Prelude.{vec_capacity};
+    ghost use Rattle.q4_store.specs.Store.{Stored, IsHeld};
+
+    ghost Value = { Stored D };
+
+    ghost view = { λ s. record { disk = s.disk; side = s.side; end = s.end; generation = s.generation; records = s.batch.records; rows = s.rows; reserved = s.reserved; known = s.known; failed = s.failed } };
+
+    ghost invariant = { λ s. IsHeld D.told (record { disk = s.disk; side = s.side; end = s.end; generation = s.generation; records = s.batch.records; rows = s.rows; reserved = s.reserved; known = s.known; failed = s.failed }) s.batch.room (vec_capacity s.ends) };
+}
+
+impl<D: Disk> Store<D> {
+    /// Opens the store of a table, and gives the table that its disk reads as, without an owner. It syncs both sides,
+    /// reads the current one, and makes a new table of generation 1 on side A where neither is open. A refusal gives
+    /// the disk back.
+    pub fn open(alloc: Global, disk: D, def: &TableDef) -> Result<(Store<D>, Table), (OpenFault, D)>
+        requires { AreColumns def.now.columns }
+        // What is given is what the two sides read as.
+        ensures reads { IfOk result (λ opened. IsTrue (D.told disk).honest → Reads def.now.columns (D.told disk).bytes opened.1 opened.0.generation) }
+        ensures stands { IfOk result (λ opened. StandsFor D.told opened.0 (record { committed = opened.1; pending = [] })) }
+        ensures fresh { IfOk result (λ opened. (opened.0.failed ≡ false) × (opened.0.records ≡ []) × (opened.1.columns ≡ def.now.columns)) }
+        // At each moment inside it each image reads as one that there was.
+        ensures any_moment { IfOk result (λ opened. IsTrue (D.told disk).honest
+            → LeavesOnly (D.told disk) (D.told opened.0.disk) (ReadsAs def.now.columns (D.told disk).images)) }
+        ensures any_moment_err { IfErr result (λ refused. IsTrue (D.told disk).honest
+            → LeavesOnly (D.told disk) (D.told refused.1) (ReadsAs def.now.columns (D.told disk).images)) }
+        // Why they read as nothing. The disk's count rises where it failed, and only there.
+        ensures fails { IfErr result (λ refused. IsTrue (D.told disk).honest → OpenFails def.now.columns (D.told disk).bytes refused.0) }
+        ensures calm { IfOk result (λ opened. (D.told opened.0.disk).faults ≡ (D.told disk).faults) }
+        ensures faults { IfErr result (λ refused. CountsOpen refused.0 (D.told disk).faults (D.told refused.1).faults) }
+        ensures honest { IfOk result (λ opened. (D.told opened.0.disk).honest ≡ (D.told disk).honest) }
+        ensures honest_err { IfErr result (λ refused. (D.told refused.1).honest ≡ (D.told disk).honest) }
+    {
+        let mut disk = disk;
+        let found = match find(alloc, &mut disk, &def.columns) {
+            Ok(found) => found,
+            Err(fault) => return Err((fault, disk)),
+        };
+        let rows = found.table.count();
+        let Ok(memory) = hold(alloc, rows) else {
+            return Err((OpenFault::Memory, disk));
+        };
+        let store = Store {
+            disk,
+            side: found.side,
+            end: found.end,
+            generation: found.generation,
+            batch: memory.batch,
+            ends: memory.ends,
+            rows,
+            reserved: 0,
+            known: found.known,
+            failed: false,
+        };
+        Ok((store, found.table))
+    }
+}
+
+// What a store keeps memory in: the batch, and the ends that a copy of the table will want.
+#[derive(Drop)]
+struct Memory {
+    batch: Batch,
+    ends: Vec<u8>,
+}
+
+// Memory for the ends of so many rows.
+fn hold(alloc: Global, rows: u32) -> Result<Memory, NoMemory>
+    ensures records { IfOk result (λ memory. memory.batch.records ≡ []) }
+    ensures batch { IfOk result (λ memory. 9 * rows ≤ memory.batch.room) }
+    ensures ends { IfOk result (λ memory. 9 * rows ≤ vec_capacity memory.ends) }
+{
+    let size = END_SIZE * rows as usize;
+    let batch = Batch::new(alloc, size)?;
+    match Vec::with_capacity(alloc, size) {
+        Ok(ends) => Ok(Memory { batch, ends }),
+        Err(_) => Err(NoMemory),
+    }
+}
+
+impl<D: Disk> Store<D> {
+    /// The length of the side up to and with its closing gate, with what is pending.
+    pub fn length(&self) -> u64
+        ensures { result ≡ length_of self.now }
+    {
+        self.end + pending_size(&self.batch)
+    }
+
+    /// Whether changes wait for a commit.
+    pub fn pending(&self) -> bool
+        ensures { IsTrue result ↔ (0 < length self.now.records) }
+    {
+        !self.batch.is_empty()
+    }
+
+    /// The generation, which rises where the table is compacted.
+    pub fn generation(&self) -> u64
+        ensures { result ≡ self.now.generation }
+    {
+        self.generation
+    }
+
+    /// How far a copy has come, where one is under way.
+    pub fn copying(&self) -> Option<u64>
+        ensures { result ≡ None }
+    {
+        None
+    }
+
+    #[cfg(test)]
+    pub(crate) fn rows(&self) -> u32
+        ensures { result ≡ self.now.rows }
+    {
+        self.rows
+    }
+
+    pub fn disk(&self) -> &D
+        ensures { result.now ≡ self.now.disk }
+    {
+        &self.disk
+    }
+
+    /// Gives the disk back. What is pending is lost.
+    pub fn give_back(self) -> D
+        ensures { result ≡ self.disk }
+    {
+        let Store { disk, .. } = self;
+        disk
+    }
+}
+
+// Reserve and append.
+impl<D: Disk> Store<D> {
+    /// Takes the room and the memory for one record of a row of this size, for its later end and for that in a copy.
+    /// `live` is the number of rows that there are. A refusal leaves the store as it was.
+    pub fn reserve(&mut self, size: u64, live: u32) -> Result<(), AppendFault>
+        requires { size ≤ 2 ^ 32 }
+        ensures fault { IfErr result (IsRefused self.old size live) }
+        // There is room exactly where it is not refused for want of it.
+        ensures room { OnOk result (IsOver (length_of self.old) (cost_of self.old size) live → ⊥) }
+        ensures kept { OnErr result (self.new ≡ self.old) }
+        ensures reserved { OnOk result (self.old.rows ≤ live → self.new ≡ record self.old { reserved = size }) }
+        ensures same { self.new ≡ record self.old { reserved = self.new.reserved } }
+        ensures stands { (content : Content) → StandsFor D.told self.old content → StandsFor D.told self.new content }
+    {
+        let cost = size + batch_cost(&self.batch);
+        if let Err(taken) = room(self.end, pending_size(&self.batch), cost, u64::from(live)) {
+            return Err(AppendFault::FileFull(taken));
+        }
+        let ends = END_SIZE * (live as usize + 1);
+        if self.batch.reserve(size as usize + ends).is_err() || self.ends.reserve(ends).is_err() {
+            return Err(AppendFault::Memory);
+        }
+        self.reserved = if self.rows <= live { size } else { 0 };
+        Ok(())
+    }
+
+    /// Appends a row that was added, with its number and where it came from. It needs a reserve for its record.
+    pub fn append_row(&mut self, number: u64, row: &Row, origin: Option<Origin>)
+        requires values { All IsValue row.now }
+        requires reserved { length (record_bytes (row_added number row.now origin)) ≤ self.old.reserved }
+        ensures stands { (content : Content) → StandsFor D.told self.old content → TakesRow content number row.now origin
+            → StandsFor D.told self.new (with_change content (row_added number row.now origin)) }
+        ensures change { self.new ≡ record self.old { records = self.old.records ++ record_bytes (row_added number row.now origin); rows = self.old.rows + 1; reserved = 0 } }
+        ensures length { length_of self.new ≡ length_of self.old + cost_of self.old (length (record_bytes (row_added number row.now origin))) }
+    {
+        self.batch.put_row(number, row, origin);
+        self.rows += 1;
+        self.reserved = 0;
+    }
+
+    /// Appends that a row was removed.
+    pub fn append_end(&mut self, number: u64)
+        requires { 1 ≤ self.old.rows }
+        ensures stands { (content : Content) → StandsFor D.told self.old content → HasRow content number
+            → StandsFor D.told self.new (with_change content (row_ended number)) }
+        ensures change { self.new ≡ record self.old { records = self.old.records ++ record_bytes (row_ended number); rows = self.old.rows - 1 } }
+        ensures length { length_of self.new ≡ length_of self.old + cost_of self.old 9 }
+    {
+        self.batch.put_end(number);
+        self.rows -= 1;
+    }
+}
+
+// Commit.
+impl<D: Disk> Store<D> {
+    /// Makes all that was appended durable, by at most two writes and two syncs. After a failure each later commit
+    /// fails at once.
+    pub fn commit(&mut self) -> Result<(), DiskFailed>
+        // At each moment inside it opening gives what is committed and a prefix of what is pending.
+        ensures any_moment { (content : Content) → StandsFor D.told self.old content → IsTrue (D.told self.old.disk).honest
+            → LeavesOnly (D.told self.old.disk) (D.told self.new.disk) (IsPrefix content self.old.generation) }
+        // After success all is committed, and after a failure the store stands for the same content.
+        ensures done { OnOk result ((content : Content) → StandsFor D.told self.old content → StandsFor D.told self.new (all_committed content)) }
+        ensures open { OnErr result ((content : Content) → StandsFor D.told self.old content → StandsFor D.told self.new content) }
+        ensures none_pending { OnOk result (self.new.records ≡ []) }
+        ensures failed { OnErr result (self.new.failed ≡ true) }
+        ensures length { length_of self.new ≡ length_of self.old }
+        ensures same { (self.new.generation ≡ self.old.generation) × (self.new.rows ≡ self.old.rows) }
+        ensures honest { (D.told self.new.disk).honest ≡ (D.told self.old.disk).honest }
+        // It fails only where the disk failed in it, or where a commit failed before.
+        ensures cause { OnErr result (self.old.failed ≡ false → bump (D.told self.old.disk).faults ≤ (D.told self.new.disk).faults) }
+        ensures calm { OnOk result ((D.told self.new.disk).faults ≡ (D.told self.old.disk).faults) }
+        ensures again { self.old.failed ≡ true → IsErr result × (self.new ≡ self.old) }
+        ensures nothing { self.old.failed ≡ false → self.old.records ≡ [] → IsOk result × (self.new ≡ self.old) }
+        ensures calls { (D.told self.new.disk).calls ≤ (D.told self.old.disk).calls + 4 }
+        ensures writes { (D.told self.new.disk).writes ≤ (D.told self.old.disk).writes + 2 }
+        ensures syncs { (D.told self.new.disk).syncs ≤ (D.told self.old.disk).syncs + 2 }
+    {
+        if self.failed {
+            return Err(DiskFailed);
+        }
+        if self.batch.is_empty() {
+            return Ok(());
+        }
+        self.failed = true;
+        match commit_batch(&mut self.disk, self.side, self.end, self.batch.as_slice()) {
+            Ok(()) => {
+                self.failed = false;
+                self.end += pending_size(&self.batch);
+                self.batch.clear();
+                self.reserved = 0;
+                Ok(())
+            }
+            Err(DiskFailed) => Err(DiskFailed),
+        }
+    }
+}
+
+// What the batch adds to the side.
+fn pending_size(batch: &Batch) -> u64
+    requires { length batch.now.records ≤ 2 ^ 32 }
+    ensures { result ≡ pending_length batch.now.records }
+{
+    if batch.is_empty() {
+        return 0;
+    }
+    BATCH_SIZE + batch.len() as u64
+}
+
+// What a record adds besides its size.
+fn batch_cost(batch: &Batch) -> u64
+    ensures { result ≡ batch_size batch.now.records 0 }
+{
+    if batch.is_empty() { BATCH_SIZE } else { 0 }
+}

@@ -1,0 +1,452 @@
+ghost use Rattle.std.specs.Prelude.{◌≡◌, ◌≤◌, ◌<◌, ◌^◌, ℕ, All, length};
+ghost use Rattle.q4_value.specs.Row.{IsValue, row_size as size_of};
+ghost use Rattle.q4_record.specs.Record.{record_bytes};
+ghost use Rattle.q4_store.specs.Content.{row_added};
+
+use crate::OpenFault::{Damaged, Large, Schema};
+use crate::{AppendFault, OpenFault, Store, room};
+use q4_def::read_defs;
+use q4_disk::{
+    Disk, DiskFailed, DiskMaker, FailingDisk, FileMaker, MemoryDisk, Numbers, Pick, Side, StopDisk,
+};
+use q4_table::{Mode, Origin, Table};
+use q4_value::{Bytes, Row, Value, Words, fits, row_size};
+use std::alloc::Global;
+use std::process::Abort;
+use std::test::*;
+
+// Side A of a table of a number and a text, of generation 1, with row 1, which is 7 and `resize a.png`.
+const WORKED: [u8; 83] = [
+    0x01, 0x51, 0x34, 0x4f, 0x31, // the open gate and the magic
+    0x00, 0x00, 0x00, 0x00, 0x00, 0x00, 0x00, 0x01, // 5: the generation
+    0x00, 0x00, 0x00, 0x00, 0x00, 0x00, 0x00, 0x17, // 13: the length of the base
+    0x07, 0x02, 0x01, 0x04, 0x70, 0x72, 0x69, 0x6f, 0x02, 0x04, 0x62, 0x6f, 0x64, 0x79, // 21: the schema
+    0x06, 0x00, 0x00, 0x00, 0x00, 0x00, 0x00, 0x00, 0x01, // 35: next
+    0x01, 0x00, 0x00, 0x00, 0x21, // 44: a batch of 33 bytes
+    0x01, 0x00, 0x00, 0x00, 0x00, 0x00, 0x00, 0x00, 0x01, // 49: an insert of row 1
+    0x00, 0x00, 0x00, 0x00, 0x00, 0x00, 0x00, 0x07, // 58
+    0x00, 0x00, 0x00, 0x0c, 0x72, 0x65, 0x73, 0x69, 0x7a, 0x65, 0x20, 0x61, 0x2e, 0x70, 0x6e, 0x67, // 66
+    0x00, // 82: the closing gate
+];
+
+const PICKS: [Pick; 4] = [Pick::Kept, Pick::Lost, Pick::Half, Pick::Ones];
+
+// What opening gives: the generation, the number of rows, the next row number and the length; or its fault.
+type Given = Result<(u64, u32, u64, u64), OpenFault>;
+
+// Opens a table with a number `prio` and a text `body`.
+fn open<D: Disk>(
+    rt: &impl Abort,
+    alloc: Global,
+    disk: D,
+) -> Result<(Store<D>, Table), (OpenFault, D)> {
+    let Ok(defs) = read_defs(alloc, &[]) else {
+        panic!(rt; "no definitions")
+    };
+    let Some(def) = defs.table(0) else {
+        panic!(rt; "no definition")
+    };
+    Store::open(alloc, disk, def)
+}
+
+fn opened<D: Disk>(rt: &impl Abort, alloc: Global, disk: D) -> (Store<D>, Table) {
+    match open(rt, alloc, disk) {
+        Ok(opened) => opened,
+        Err((_fault, _disk)) => panic!(rt; "it was not opened"),
+    }
+}
+
+fn given<D: Disk>(rt: &impl Abort, alloc: Global, disk: D) -> Given {
+    match open(rt, alloc, disk) {
+        Ok((store, table)) => Ok((
+            store.generation(),
+            table.count(),
+            table.next(),
+            store.length(),
+        )),
+        Err((fault, _disk)) => Err(fault),
+    }
+}
+
+// A disk whose sides hold these bytes, synced.
+fn seeded(rt: &impl Abort, alloc: Global, a: &[u8], b: &[u8]) -> MemoryDisk {
+    let mut disk = MemoryDisk::new(alloc);
+    assert!(rt; disk.write(Side::A, 0, a).is_ok() && disk.sync(Side::A).is_ok());
+    assert!(rt; disk.write(Side::B, 0, b).is_ok() && disk.sync(Side::B).is_ok());
+    disk
+}
+
+fn job(rt: &impl Abort, alloc: Global, prio: i64, body: &str) -> Row
+    ensures values { All IsValue result }
+    ensures size { size_of result < 2 ^ 31 }
+{
+    let mut row = Row::new(alloc);
+    let body = Words::new(alloc, body).expect(rt, "memory");
+    assert!(rt; row.push(Value::Int(prio)).is_ok());
+    assert!(rt; row.push(Value::Word(body)).is_ok());
+    let Ok(defs) = read_defs(alloc, &[]) else {
+        panic!(rt; "no definitions")
+    };
+    let Some(def) = defs.table(0) else {
+        panic!(rt; "no definition")
+    };
+    match fits(def.columns.as_slice(), &row) {
+        Ok(()) => row,
+        Err(_) => panic!(rt; "the row does not fit"),
+    }
+}
+
+// The size of the record of a row that was added.
+fn record_size(row: &Row, origin: Option<Origin>) -> u64
+    requires { size_of row.now < 2 ^ 31 }
+    ensures size { (number : ℕ) → result ≡ length (record_bytes (row_added number row.now origin)) }
+    ensures few { result ≤ 2 ^ 32 }
+{
+    match origin {
+        None => 9 + row_size(row),
+        Some(_) => 19 + row_size(row),
+    }
+}
+
+// Reserves for the record of a row, and appends it.
+fn append<D: Disk>(
+    rt: &impl Abort,
+    store: &mut Store<D>,
+    number: u64,
+    row: &Row,
+    origin: Option<Origin>,
+)
+    requires values { All IsValue row.now }
+    requires size { size_of row.now < 2 ^ 31 }
+{
+    match store.reserve(record_size(row, origin), store.rows()) {
+        Ok(()) => store.append_row(number, row, origin),
+        Err(_) => panic!(rt; "no room"),
+    }
+}
+
+fn end<D: Disk>(rt: &impl Abort, store: &mut Store<D>, number: u64) {
+    assert!(rt; store.rows() >= 1);
+    store.append_end(number);
+}
+
+#[test]
+fn room_at_its_limit(rt: HostRuntime) {
+    assert_eq!(rt; room(536_870_000, 0, 880, 0), Ok(()));
+    assert_eq!(rt; room(536_870_000, 0, 881, 0), Err(536_870_000));
+    assert_eq!(rt; room(536_860_000, 10_000, 880, 0), Ok(()));
+    assert_eq!(rt; room(536_860_000, 10_000, 848, 1), Ok(()));
+    assert_eq!(rt; room(536_860_000, 10_000, 849, 1), Err(536_870_000));
+}
+
+#[test]
+fn words_of_faults(rt: HostRuntime) -> Result<(), Fail> {
+    let cases = [
+        (OpenFault::Disk, "disk fault"),
+        (Damaged(Side::A, 44), "damaged a 44"),
+        (Damaged(Side::B, 5), "damaged b 5"),
+        (Schema(2), "schema 2"),
+        (Large(7), "large 7"),
+        (OpenFault::Memory, "out of memory"),
+    ];
+    for (fault, words) in cases {
+        assert_eq!(rt; format!(in rt.alloc(); "{fault}")?.as_str(), words);
+    }
+    Ok(())
+}
+
+#[test]
+fn a_store_writes_the_worked_side(rt: HostRuntime) {
+    let alloc = rt.alloc();
+    let (mut store, table) = opened(&rt, alloc, MemoryDisk::new(alloc));
+    assert_eq!(rt;
+        (table.count(), table.next(), store.generation()),
+        (0, 1, 1)
+    );
+    assert_eq!(rt;
+        (store.length(), store.pending(), store.copying()),
+        (45, false, None)
+    );
+    append(
+        &rt,
+        &mut store,
+        1,
+        &job(&rt, alloc, 7, "resize a.png"),
+        None,
+    );
+    assert_eq!(rt; (store.length(), store.pending()), (83, true));
+    assert_eq!(rt; store.commit(), Ok(()));
+    assert_eq!(rt; (store.length(), store.pending()), (83, false));
+    let disk = store.give_back();
+    assert_eq!(rt; disk.bytes(Side::A), WORKED.as_slice());
+    assert_eq!(rt; disk.bytes(Side::B), [].as_slice());
+    assert_eq!(rt; given(&rt, alloc, disk), Ok((1, 1, 2, 83)));
+}
+
+#[test]
+fn three_appends_make_one_commit(rt: HostRuntime) {
+    let alloc = rt.alloc();
+    let (mut store, _) = opened(&rt, alloc, MemoryDisk::new(alloc));
+    let row = job(&rt, alloc, 7, "a");
+    append(&rt, &mut store, 1, &row, None);
+    append(&rt, &mut store, 2, &row, None);
+    append(&rt, &mut store, 3, &row, None);
+    let before = counts(store.disk());
+    assert_eq!(rt; store.commit(), Ok(()));
+    assert_eq!(rt; added(before, counts(store.disk())), [4, 2, 2, 0]);
+    let before = counts(store.disk());
+    assert_eq!(rt; store.commit(), Ok(()));
+    assert_eq!(rt; added(before, counts(store.disk())), [0, 0, 0, 0]);
+}
+
+// The numbers of device calls, writes, syncs and faults.
+fn counts(disk: &MemoryDisk) -> [u64; 4] {
+    [disk.calls(), disk.writes(), disk.syncs(), disk.faults()]
+}
+
+fn added(before: [u64; 4], now: [u64; 4]) -> [u64; 4] {
+    [
+        now[0].saturating_sub(before[0]),
+        now[1].saturating_sub(before[1]),
+        now[2].saturating_sub(before[2]),
+        now[3].saturating_sub(before[3]),
+    ]
+}
+
+#[test]
+fn ends_and_forwarded_rows_are_read_again(rt: HostRuntime) {
+    let alloc = rt.alloc();
+    let (mut store, _) = opened(&rt, alloc, MemoryDisk::new(alloc));
+    let row = job(&rt, alloc, 7, "a");
+    let from = Origin {
+        source: 4,
+        mode: Mode::A,
+        number: 9,
+    };
+    append(&rt, &mut store, 1, &row, None);
+    append(&rt, &mut store, 2, &row, Some(from));
+    end(&rt, &mut store, 1);
+    // 45, then 5 and records of 9 and 13 bytes, 19 and 13, and 9
+    assert_eq!(rt; store.length(), 113);
+    assert_eq!(rt; store.commit(), Ok(()));
+    end(&rt, &mut store, 2);
+    assert_eq!(rt; store.commit(), Ok(()));
+    append(&rt, &mut store, 3, &row, None);
+    assert_eq!(rt; store.reserve(1 << 30, 1), Err(AppendFault::FileFull(154)));
+    let (store, table) = opened(&rt, alloc, store.give_back());
+    assert_eq!(rt;
+        (table.count(), table.next(), table.mark(4), store.length()),
+        (0, 3, 9, 127)
+    );
+}
+
+#[test]
+fn a_store_that_failed_makes_no_call(rt: HostRuntime) {
+    let alloc = rt.alloc();
+    let mut numbers = Numbers::new(alloc);
+    // opening makes 13 calls, the first commit 4, and the second commit's last sync is the 21st
+    assert!(rt; numbers.push(21).is_ok());
+    let disk = FailingDisk::new(MemoryDisk::new(alloc), numbers);
+    let (mut store, _) = opened(&rt, alloc, disk);
+    let row = job(&rt, alloc, 7, "a");
+    append(&rt, &mut store, 1, &row, None);
+    assert_eq!(rt; store.commit(), Ok(()));
+    append(&rt, &mut store, 2, &row, None);
+    assert_eq!(rt; store.commit(), Err(DiskFailed));
+    let before = counts(store.disk().inner());
+    assert_eq!(rt; store.commit(), Err(DiskFailed));
+    assert_eq!(rt; added(before, counts(store.disk().inner())), [0, 0, 0, 0]);
+}
+
+// A disk of the picked image.
+fn left(rt: &impl Abort, alloc: Global, disk: &StopDisk, pick: Pick) -> MemoryDisk {
+    let a = image(rt, alloc, disk, Side::A, pick);
+    let b = image(rt, alloc, disk, Side::B, pick);
+    seeded(rt, alloc, a.as_slice(), b.as_slice())
+}
+
+fn image(rt: &impl Abort, alloc: Global, disk: &StopDisk, side: Side, pick: Pick) -> Bytes {
+    match disk.image(alloc, side, pick) {
+        Ok(bytes) => bytes,
+        Err(_) => panic!(rt; "no image"),
+    }
+}
+
+#[test]
+fn a_commit_that_stops_leaves_all_or_nothing(rt: HostRuntime) {
+    let alloc = rt.alloc();
+    let row = job(&rt, alloc, 8, "b");
+    // opening makes 6 calls where there is a table
+    for stop in 7..=10 {
+        let disk = StopDisk::new(seeded(&rt, alloc, &WORKED, &[]), stop);
+        let (mut store, table) = opened(&rt, alloc, disk);
+        assert_eq!(rt; table.count(), 1);
+        append(&rt, &mut store, 2, &row, None);
+        assert_eq!(rt; store.commit(), Err(DiskFailed));
+        let disk = store.give_back();
+        for pick in PICKS {
+            // the gate is written by the third call
+            let kept = stop >= 9 && matches!(pick, Pick::Kept | Pick::Ones);
+            let want = if kept { (1, 2, 3, 110) } else { (1, 1, 2, 83) };
+            assert_eq!(rt;
+                given(&rt, alloc, left(&rt, alloc, &disk, pick)),
+                Ok(want),
+                "{stop}"
+            );
+        }
+    }
+}
+
+// Opens a disk that stops at this call, and tells whether the opening came to its end.
+fn stopped(rt: &impl Abort, alloc: Global, a: &[u8], stop: u64) -> (bool, StopDisk) {
+    let disk = StopDisk::new(seeded(rt, alloc, a, &[]), stop);
+    match open(rt, alloc, disk) {
+        Ok((store, _table)) => (true, store.give_back()),
+        Err((fault, disk)) => {
+            assert_eq!(rt; fault, OpenFault::Disk);
+            (false, disk)
+        }
+    }
+}
+
+#[test]
+fn an_opening_that_stops_leaves_a_new_table(rt: HostRuntime) {
+    let alloc = rt.alloc();
+    // side A without a byte, with a closed gate, and with an open one that is cut short: so many calls are made
+    let cases: [(&[u8], u64); 3] = [(&[], 13), (&[0, 1, 1], 11), (&[1, 1, 1], 13)];
+    for (a, calls) in cases {
+        for stop in 1..=14 {
+            let (done, disk) = stopped(&rt, alloc, a, stop);
+            assert_eq!(rt; done, stop > calls, "{stop}");
+            for pick in PICKS {
+                let left = left(&rt, alloc, &disk, pick);
+                assert_eq!(rt; given(&rt, alloc, left), Ok((1, 0, 1, 45)), "{stop}");
+            }
+        }
+    }
+}
+
+// The first bytes of the worked side, with one byte changed.
+fn changed(rt: &impl Abort, alloc: Global, len: usize, at: usize, byte: u8) -> Vec<u8> {
+    let mut bytes = Vec::new(alloc);
+    for (place, was) in WORKED.iter().enumerate() {
+        if place < len {
+            let now = if place == at { byte } else { *was };
+            assert!(rt; bytes.push(now).is_ok());
+        }
+    }
+    bytes
+}
+
+#[test]
+fn damaged_sides(rt: HostRuntime) {
+    let alloc = rt.alloc();
+    // the length that is kept, the byte that is changed and what it becomes
+    let cases: [(usize, usize, u8, Given); 26] = [
+        (83, 83, 0, Ok((1, 1, 2, 83))),
+        (60, 83, 0, Err(Damaged(Side::A, 44))),
+        (50, 44, 0, Ok((1, 0, 1, 45))),
+        (83, 1, 0x50, Err(Damaged(Side::A, 0))),
+        (83, 12, 0x00, Err(Damaged(Side::A, 0))),
+        (83, 20, 0xff, Err(Damaged(Side::A, 0))),
+        (83, 5, 0x40, Err(Large(7))),
+        (83, 23, 0x02, Err(Schema(1))),
+        (83, 31, 0x63, Err(Schema(2))),
+        (83, 23, 0x07, Err(Damaged(Side::A, 21))),
+        (83, 35, 0x02, Err(Damaged(Side::A, 35))),
+        (83, 35, 0x07, Err(Damaged(Side::A, 35))),
+        (83, 35, 0x09, Err(Damaged(Side::A, 35))),
+        (83, 43, 0x00, Err(Damaged(Side::A, 35))),
+        (83, 36, 0x40, Err(Large(3))),
+        (83, 43, 0x05, Err(Damaged(Side::A, 49))),
+        (83, 57, 0x02, Err(Damaged(Side::A, 49))),
+        (83, 49, 0x03, Err(Damaged(Side::A, 49))),
+        (83, 48, 0x22, Err(Damaged(Side::A, 44))),
+        (83, 48, 0x20, Err(Damaged(Side::A, 49))),
+        (83, 69, 0x0d, Err(Damaged(Side::A, 49))),
+        (83, 70, 0xff, Err(Damaged(Side::A, 49))),
+        (83, 67, 0x01, Err(Large(4))),
+        (83, 82, 0x01, Err(Damaged(Side::A, 82))),
+        (83, 0, 0x00, Ok((1, 0, 1, 45))),
+        (20, 83, 0, Ok((1, 0, 1, 45))),
+    ];
+    for (len, at, byte, want) in cases {
+        let a = changed(&rt, alloc, len, at, byte);
+        assert_eq!(rt;
+            given(&rt, alloc, seeded(&rt, alloc, &a, &[])),
+            want,
+            "{len} {at} {byte}"
+        );
+    }
+}
+
+// A side of generation 2 without a row, with this gate.
+fn of_generation_two(rt: &impl Abort, alloc: Global, gate: u8) -> Vec<u8> {
+    let mut bytes = Vec::new(alloc);
+    for (place, was) in WORKED[..45].iter().enumerate() {
+        let now = match place {
+            0 => gate,
+            12 => 2,
+            44 => 0,
+            _ => *was,
+        };
+        assert!(rt; bytes.push(now).is_ok());
+    }
+    bytes
+}
+
+#[test]
+fn two_open_sides(rt: HostRuntime) {
+    let alloc = rt.alloc();
+    let worked = WORKED.as_slice();
+    let bad = changed(&rt, alloc, 83, 1, 0x50);
+    let newer = of_generation_two(&rt, alloc, 1);
+    let closed = of_generation_two(&rt, alloc, 0);
+    assert_eq!(rt;
+        given(&rt, alloc, seeded(&rt, alloc, worked, worked)),
+        Err(Damaged(Side::B, 5))
+    );
+    assert_eq!(rt;
+        given(&rt, alloc, seeded(&rt, alloc, &bad, worked)),
+        Err(Damaged(Side::A, 0))
+    );
+    assert_eq!(rt;
+        given(&rt, alloc, seeded(&rt, alloc, worked, &bad)),
+        Err(Damaged(Side::B, 0))
+    );
+    assert_eq!(rt;
+        given(&rt, alloc, seeded(&rt, alloc, worked, &newer)),
+        Ok((2, 0, 1, 45))
+    );
+    assert_eq!(rt;
+        given(&rt, alloc, seeded(&rt, alloc, &newer, worked)),
+        Ok((2, 0, 1, 45))
+    );
+    assert_eq!(rt;
+        given(&rt, alloc, seeded(&rt, alloc, &closed, worked)),
+        Ok((1, 1, 2, 83))
+    );
+}
+
+#[test]
+fn a_store_in_files(rt: HostRuntime) {
+    let alloc = rt.alloc();
+    let mut maker = FileMaker::new(&rt);
+    let Ok(disk) = maker.make(alloc, "jobs") else {
+        panic!(rt; "no files")
+    };
+    let (mut store, _) = opened(&rt, alloc, disk);
+    append(
+        &rt,
+        &mut store,
+        1,
+        &job(&rt, alloc, 7, "resize a.png"),
+        None,
+    );
+    assert_eq!(rt; store.commit(), Ok(()));
+    drop(store);
+    let Ok(disk) = maker.make(alloc, "jobs") else {
+        panic!(rt; "no files")
+    };
+    assert_eq!(rt; given(&rt, alloc, disk), Ok((1, 1, 2, 83)));
+}
