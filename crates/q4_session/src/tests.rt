@@ -677,6 +677,19 @@ const ROW_ID: &[u8] = b"rowid\n";
 
 const FULL_HISTORY: &[u8] = b"err\t70\thistory full\t1048572\n";
 
+// Each command but to quit is refused alike, and a line that spells none by its code.
+const LINES_WHEN_FULL: [(&[u8], &[u8]); 9] = [
+    (b"rowid", FULL_HISTORY),
+    (b"insert\tjobs\t1\ta", FULL_HISTORY),
+    (b"wait\tjobs\t=0", FULL_HISTORY),
+    (b"end", FULL_HISTORY),
+    (b"abort", FULL_HISTORY),
+    (b"select\tjobs\t1", FULL_HISTORY),
+    (b"insert\tmail\t1", b"err\t21\tno table\t1\n"),
+    (b"rowid", FULL_HISTORY),
+    (b"quit", b"bye\n"),
+];
+
 const FULL_BEFORE: &[u8] = b"err\t70\thistory full\t1048573\n";
 
 // No session is opened on a full history: its input is not read, and it leaves no entry.
@@ -709,12 +722,15 @@ fn full_histories(rt: HostRuntime) {
         append(&rt, &mut input, ROW_ID);
         append(&rt, &mut replies, NOT_OWNER);
     }
-    append(&rt, &mut input, ROW_ID);
-    append(&rt, &mut replies, FULL_HISTORY);
+    for (line, reply) in LINES_WHEN_FULL {
+        append(&rt, &mut input, line);
+        append(&rt, &mut input, b"\n");
+        append(&rt, &mut replies, reply);
+    }
     let mut source = in_pieces(&rt, alloc, &input, &[], 100_000_000);
     let past = hold(&rt, alloc, b"", &mut source, &[], &mut Never::new());
     assert!(rt; past.sink.bytes() == replies.as_slice());
-    assert_eq!(rt; past.end, SessionEnd::Ended);
+    assert_eq!(rt; past.end, SessionEnd::Quit);
     let Past { mut desk, .. } = past;
     let end = SessionEnd::Worn(1_048_573);
     check_refused(&rt, alloc, &mut desk, &[], FULL_BEFORE, end);

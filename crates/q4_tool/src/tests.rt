@@ -204,6 +204,27 @@ fn runs(rt: HostRuntime) {
     }
 }
 
+const NOT_OWNER: &[u8] = b"err\t31\tnot in owner mode\n";
+
+// The history takes so many lines behind the opening, and the next one is refused. The run ends as any other.
+#[test]
+fn full_history(rt: HostRuntime) {
+    let alloc = rt.alloc();
+    let mut input = Vec::new(alloc);
+    let mut replies = Vec::new(alloc);
+    for _ in 0..1_048_570 {
+        append(&rt, &mut input, b"rowid\n");
+        append(&rt, &mut replies, NOT_OWNER);
+    }
+    append(&rt, &mut input, b"rowid\n");
+    append(&rt, &mut replies, b"err\t70\thistory full\t1048572\n");
+    let mut source = at_once(&rt, alloc, &input);
+    let mut definitions = at_once(&rt, alloc, b"");
+    let done = run_tool(&rt, alloc, &["run"], &mut source, &mut definitions, &[]);
+    assert!(rt; done.sink.bytes() == replies.as_slice());
+    assert_eq!(rt; done.status, 0);
+}
+
 // The reads of at most 20 bytes and the writes with these numbers fail.
 const FAULTY: [(&[u8], &[u64], &[u64], &[u8], u8); 5] = [
     (
