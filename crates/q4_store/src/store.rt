@@ -180,7 +180,8 @@ impl<D: Disk> Store<D> {
 
 // Reserve and append.
 impl<D: Disk> Store<D> {
-    /// Takes the room and the memory for one record of a row of this size, for its later end and for that in a copy.
+    /// Takes the room and the memory for one record of this size of a row that is added, for its later end and for that
+    /// in a copy.
     /// `live` is the number of rows that there are. A refusal leaves the store as it was.
     pub fn reserve(&mut self, size: u64, live: u32) -> Result<(), AppendFault>
         requires { size ≤ 2 ^ 32 }
@@ -242,10 +243,9 @@ impl<D: Disk> Store<D> {
         // After success all is committed, and after a failure the store stands for the same content.
         ensures done { OnOk result ((content : Content) → StandsFor D.told self.old content → StandsFor D.told self.new (all_committed content)) }
         ensures open { OnErr result ((content : Content) → StandsFor D.told self.old content → StandsFor D.told self.new content) }
-        ensures none_pending { OnOk result (self.new.records ≡ []) }
-        ensures failed { OnErr result (self.new.failed ≡ true) }
+        ensures committed { OnOk result (self.new ≡ record self.old { disk = self.new.disk; end = length_of self.old; records = []; reserved = self.new.reserved }) }
+        ensures failed { OnErr result (self.new ≡ record self.old { disk = self.new.disk; failed = true }) }
         ensures length { length_of self.new ≡ length_of self.old }
-        ensures same { (self.new.generation ≡ self.old.generation) × (self.new.rows ≡ self.old.rows) }
         ensures honest { (D.told self.new.disk).honest ≡ (D.told self.old.disk).honest }
         // It fails only where the disk failed in it, or where a commit failed before.
         ensures cause { OnErr result (self.old.failed ≡ false → bump (D.told self.old.disk).faults ≤ (D.told self.new.disk).faults) }
