@@ -1,5 +1,5 @@
 //! `q4`: a tool over queue tables. `q4 run` is one session from the standard input to the standard output, over the
-//! tables that `tables.toml` in the working folder defines.
+//! tables that `tables.toml` in the working folder defines. `q4 play` is many sessions on such tables, each behind a label.
 #![tactic(auto)]
 
 use q4_flow::{FileSource, StdSink, StdSource};

@@ -27,6 +27,7 @@ refusal_words number =
     else if number == 12 then entry (codes "wrong number of fields") 0
     else if number == 13 then entry (codes "bad number") 1
     else if number == 14 then entry (codes "bad escape") 1
+    else if number == 15 then entry (codes "bad label") 0
     else if number == 19 then entry (codes "not built") 0
     else if number == 20 then entry (codes "wrong number of values") 1
     else if number == 21 then entry (codes "no table") 1
@@ -94,6 +95,16 @@ text (told.Seen mark) = codes "seen\t" ++ decimal mark ++ codes "\n"
 text (told.Rows rows) = codes "rows\t" ++ decimal (length rows) ++ codes "\n" ++ flat_map row_line rows
 text told.Bye = codes "bye\n"
 text (told.Refused code) = codes "err\t" ++ decimal code.number ++ 9 ∷ words_of (refusal_words code.number) ++ tab_number code.first ++ tab_number code.second ++ codes "\n"
+
+-- what stands before each line of a reply behind a label: its digits and a space
+abbrev pub label_front : Option ℕ → List ℕ
+label_front None = []
+label_front (Some label) = decimal label ++ codes " "
+
+-- the text of an outcome with this before each of its lines
+abbrev pub text_behind : Option ℕ → told.Told → List ℕ
+text_behind label (told.Rows rows) = label_front label ++ codes "rows\t" ++ decimal (length rows) ++ codes "\n" ++ flat_map (λ shown. label_front label ++ row_line shown) rows
+text_behind label outcome = label_front label ++ text outcome
 
 -- a code without numbers, with one, and with two
 abbrev pub code : ℕ → Code

@@ -16,7 +16,7 @@ mod wait;
 
 pub use command::{Command, CommandFault, read_command};
 pub use laws::{every_line_is_answered, one_command, one_fault, spelled_lines_are_not_refused};
-pub use reply::{Code, Outcome, put_reply, refusal_of};
+pub use reply::{Code, Outcome, put_reply, put_reply_behind, refusal_of};
 
 #[cfg(test)]
 mod tests;

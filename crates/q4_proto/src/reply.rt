@@ -3,7 +3,7 @@ ghost use Rattle.std.specs.Option.{IsSomeAnd};
 ghost use Rattle.q4_flow.specs.Flow.{Took, TookFront, Counts};
 ghost use Rattle.q4_proto.specs.Told as told;
 ghost use Rattle.q4_proto.specs.Told.{told as seen_as};
-ghost use Rattle.q4_proto.specs.Text.{text, code, code_at, code_within, refusal_words, tab_number, fault_code, IsCode, IsOutcome};
+ghost use Rattle.q4_proto.specs.Text.{text, text_behind, label_front, code, code_at, code_within, refusal_words, tab_number, fault_code, IsCode, IsOutcome};
 
 use crate::CommandFault;
 use crate::line_buffer::LineBuffer;
@@ -107,34 +107,71 @@ pub fn put_reply<W: Sink>(outcome: &Outcome, sink: &mut W) -> Result<(), WriteFa
     ensures front { OnErr result (TookFront (W.written sink.old) (W.written sink.new) (text (seen_as outcome.now))) }
     ensures cause { Counts (W.faults sink.old) (W.faults sink.new) result }
 {
+    put_reply_behind(None, outcome, sink)
+}
+
+/// The same with the label and a space before each line of the reply, where there is a label.
+pub fn put_reply_behind<W: Sink>(
+    label: Option<u8>,
+    outcome: &Outcome,
+    sink: &mut W,
+) -> Result<(), WriteFailed>
+    requires { IsOutcome (seen_as outcome.now) }
+    ensures all { OnOk result (Took (W.written sink.old) (W.written sink.new) (text_behind label (seen_as outcome.now))) }
+    ensures front { OnErr result (TookFront (W.written sink.old) (W.written sink.new) (text_behind label (seen_as outcome.now))) }
+    ensures cause { Counts (W.faults sink.old) (W.faults sink.new) result }
+{
     match outcome {
-        Outcome::Ok => sink.write(b"ok\n"),
-        Outcome::Number(number) => sink.write(number_line(b"ok\t", *number).as_slice()),
-        Outcome::Seen(mark) => sink.write(number_line(b"seen\t", *mark).as_slice()),
-        Outcome::Rows(rows) => put_rows(rows, sink),
-        Outcome::Bye => sink.write(b"bye\n"),
-        Outcome::Refused(code) => sink.write(refusal_line(*code).as_slice()),
+        Outcome::Ok => sink.write(word_line(label, b"ok\n").as_slice()),
+        Outcome::Number(number) => sink.write(number_line(label, b"ok\t", *number).as_slice()),
+        Outcome::Seen(mark) => sink.write(number_line(label, b"seen\t", *mark).as_slice()),
+        Outcome::Rows(rows) => put_rows(label, rows, sink),
+        Outcome::Bye => sink.write(word_line(label, b"bye\n").as_slice()),
+        Outcome::Refused(code) => sink.write(refusal_line(label, *code).as_slice()),
     }
 }
 
-pub(crate) fn number_line(word: &[u8], number: u64) -> LineBuffer
+// The label and a space, as the front of a line.
+pub(crate) fn label_front(label: Option<u8>) -> LineBuffer
+    ensures front { result ≡ label_front label }
+    ensures short { length result ≤ 21 }
+{
+    let mut line = LineBuffer::new();
+    if let Some(label) = label {
+        let mut digits = Buffer::new();
+        line.put(digits.format(label).as_bytes());
+        line.put(b" ");
+    }
+    line
+}
+
+fn word_line(label: Option<u8>, word: &[u8]) -> LineBuffer
     requires { length word.now ≤ 8 }
-    ensures { result ≡ word.now ++ decimal number ++ codes "\n" }
+    ensures { result ≡ label_front label ++ word.now }
+{
+    let mut line = label_front(label);
+    line.put(word);
+    line
+}
+
+pub(crate) fn number_line(label: Option<u8>, word: &[u8], number: u64) -> LineBuffer
+    requires { length word.now ≤ 8 }
+    ensures { result ≡ label_front label ++ word.now ++ decimal number ++ codes "\n" }
 {
     let mut digits = Buffer::new();
-    let mut line = LineBuffer::new();
+    let mut line = label_front(label);
     line.put(word);
     line.put(digits.format(number).as_bytes());
     line.put(b"\n");
     line
 }
 
-fn refusal_line(code: Code) -> LineBuffer
+fn refusal_line(label: Option<u8>, code: Code) -> LineBuffer
     requires { IsCode code }
-    ensures { result ≡ text (told.Refused code) }
+    ensures { result ≡ label_front label ++ text (told.Refused code) }
 {
     let mut digits = Buffer::new();
-    let mut line = LineBuffer::new();
+    let mut line = label_front(label);
     line.put(b"err\t");
     line.put(digits.format(code.number).as_bytes());
     line.put(b"\t");
@@ -147,7 +184,7 @@ fn refusal_line(code: Code) -> LineBuffer
 
 // Puts a TAB and the number, where there is one.
 fn put_number(line: &mut LineBuffer, number: Option<u64>)
-    requires { length line.old ≤ 64 }
+    requires { length line.old ≤ 96 }
     ensures put { line.new ≡ line.old ++ tab_number number }
     ensures short { length line.new ≤ length line.old + 21 }
 {
@@ -169,6 +206,7 @@ fn refusal_words(number: u16) -> &'static [u8]
         12 => b"wrong number of fields",
         13 => b"bad number",
         14 => b"bad escape",
+        15 => b"bad label",
         19 => b"not built",
         20 => b"wrong number of values",
         21 => b"no table",

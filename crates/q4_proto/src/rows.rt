@@ -1,37 +1,43 @@
-ghost use Rattle.std.specs.Prelude.{◌≡◌, ◌≤◌, ◌⊎◌, All, length, decimal, OnOk, OnErr};
+ghost use Rattle.std.specs.Prelude.{◌≡◌, ◌≤◌, ◌++◌, ◌⊎◌, All, length, decimal, OnOk, OnErr};
 ghost use Rattle.std.specs.List.{flat_map};
 ghost use Rattle.q4_flow.specs.Flow.{Took, TookFront, Counts};
 ghost use Rattle.q4_value.specs.Escape.{escaped, escaped_byte, IsFieldByte};
 ghost use Rattle.q4_proto.specs.Commands.{spelled_value};
 ghost use Rattle.q4_proto.specs.Told as told;
-ghost use Rattle.q4_proto.specs.Text.{tab_value, row_line, text};
+ghost use Rattle.q4_proto.specs.Text.{tab_value, row_line, label_front, text_behind};
 ghost use Rattle.q4_proto.specs.Pieces.{writing, Puts};
 
 use crate::pieces::Pieces;
-use crate::reply::number_line;
+use crate::reply::{label_front, number_line};
 use itoa::Buffer;
 use memchr::{memchr, memchr3};
 use q4_flow::{Sink, WriteFailed};
 use q4_machine::{NumberedRow, Rows};
 use q4_value::{Row, Value};
 
-// Writes the line of their number, and a line for each row.
-pub(crate) fn put_rows<W: Sink>(rows: &Rows, sink: &mut W) -> Result<(), WriteFailed>
-    ensures all { OnOk result (Took (W.written sink.old) (W.written sink.new) (text (told.Rows rows.now))) }
-    ensures front { OnErr result (TookFront (W.written sink.old) (W.written sink.new) (text (told.Rows rows.now))) }
+// Writes the line of their number, and a line for each row, each behind the label.
+pub(crate) fn put_rows<W: Sink>(
+    label: Option<u8>,
+    rows: &Rows,
+    sink: &mut W,
+) -> Result<(), WriteFailed>
+    ensures all { OnOk result (Took (W.written sink.old) (W.written sink.new) (text_behind label (told.Rows rows.now))) }
+    ensures front { OnErr result (TookFront (W.written sink.old) (W.written sink.new) (text_behind label (told.Rows rows.now))) }
     ensures cause { Counts (W.faults sink.old) (W.faults sink.new) result }
 {
-    let mut reply = Pieces::new(number_line(b"rows\t", u64::from(rows.len())));
+    let front = label_front(label);
+    let mut reply = Pieces::new(number_line(label, b"rows\t", u64::from(rows.len())));
     for shown in rows.as_slice() {
-        put_row(&mut reply, sink, shown);
+        put_row(&mut reply, sink, front.as_slice(), shown);
     }
     reply.finish(sink)
 }
 
-fn put_row<W: Sink>(reply: &mut Pieces, sink: &mut W, shown: &NumberedRow)
-    ensures { Puts (writing (W.written sink.old) (W.faults sink.old) reply.old) (writing (W.written sink.new) (W.faults sink.new) reply.new) (row_line shown.now) }
+fn put_row<W: Sink>(reply: &mut Pieces, sink: &mut W, front: &[u8], shown: &NumberedRow)
+    ensures { Puts (writing (W.written sink.old) (W.faults sink.old) reply.old) (writing (W.written sink.new) (W.faults sink.new) reply.new) (front.now ++ row_line shown.now) }
 {
     let mut digits = Buffer::new();
+    reply.put(sink, front);
     reply.put(sink, b"row\t");
     reply.put(sink, digits.format(shown.number).as_bytes());
     put_values(reply, sink, &shown.row);

@@ -49,6 +49,54 @@ fn replies(rt: HostRuntime) {
     check_refusal(&rt, rt.alloc(), worn, b"err\t70\thistory full\t1048576\n");
 }
 
+// The same behind a label.
+fn check_behind(rt: &impl Abort, alloc: Global, label: u8, outcome: &Outcome, wanted: &[u8])
+    requires { IsOutcome (told outcome.now) }
+{
+    let mut sink = MemorySink::new(alloc, &[2]).expect(rt, "memory");
+    assert_eq!(rt; put_reply_behind(Some(label), outcome, &mut sink), Ok(()));
+    assert_eq!(rt;
+        put_reply_behind(Some(label), outcome, &mut sink),
+        Err(WriteFailed)
+    );
+    assert_eq!(rt; sink.bytes(), wanted);
+}
+
+#[test]
+fn replies_behind_labels(rt: HostRuntime) {
+    let alloc = rt.alloc();
+    check_behind(&rt, alloc, 1, &Outcome::Ok, b"1 ok\n");
+    check_behind(&rt, alloc, 64, &Outcome::Number(12), b"64 ok\t12\n");
+    check_behind(&rt, alloc, 7, &Outcome::Bye, b"7 bye\n");
+    let bad_label = Code {
+        number: 15,
+        first: None,
+        second: None,
+    };
+    check_behind(
+        &rt,
+        alloc,
+        0,
+        &Outcome::Refused(bad_label),
+        b"0 err\t15\tbad label\n",
+    );
+    let mut rows = Rows::new(alloc);
+    let mut first = Row::new(alloc);
+    add_value(&rt, &mut first, Value::Int(-7));
+    add_words(&rt, alloc, &mut first, "a\nb");
+    add_row(&rt, &mut rows, 1, first);
+    let mut second = Row::new(alloc);
+    add_words(&rt, alloc, &mut second, "");
+    add_row(&rt, &mut rows, 12, second);
+    check_behind(
+        &rt,
+        alloc,
+        5,
+        &Outcome::Rows(&rows),
+        b"5 rows\t2\n5 row\t1\t-7\ta\\nb\n5 row\t12\t\n",
+    );
+}
+
 // Puts the value behind those of the row.
 fn add_value(rt: &impl Abort, row: &mut Row, value: Value)
     ensures { row.new ≡ row.old ++ value ∷ [] }

@@ -40,9 +40,9 @@ does_complete client before patience exchange (Err fault) defs reads does comman
     memory_completes client before patience exchange (call_of command) (subst (λ (f : CommandFault). Says patience exchange (fault_outcome f)) memory does)
 
 -- a command that a line spelled was done
-pub answered_command : (client : Client) (seen seen' : List Entry) (patience patience' : PatienceState) (line : List ℕ) (command : Command) (written written' : Option (List ℕ)) (how : Answered)
-    → AreDefs client.defs → Reads client.defs line (Ok command) → Obeying client seen seen' patience patience' command written written' how → Answering client seen seen' patience patience' line written written' how
-answered_command client seen seen' patience patience' line command written written' how defs reads obeying =
+pub answered_command : (client : Client) (label : Option ℕ) (seen seen' : List Entry) (patience patience' : PatienceState) (line : List ℕ) (command : Command) (written written' : Option (List ℕ)) (how : Answered)
+    → AreDefs client.defs → Reads client.defs line (Ok command) → Obeying client label seen seen' patience patience' command written written' how → Answering client label seen seen' patience patience' line written written' how
+answered_command client label seen seen' patience patience' line command written written' how defs reads obeying =
     let exchange : Exchange = record { line = line; grown = obeying.grown; outcome = obeying.outcome; patience = patience' } in
     record {
       grown = obeying.grown;
@@ -53,9 +53,9 @@ answered_command client seen seen' patience patience' line command written writt
     }
 
 -- a line that spells no command was answered its code
-pub answered_fault : (client : Client) (seen : List Entry) (patience : PatienceState) (line : List ℕ) (fault : CommandFault) (written written' : Option (List ℕ)) (how : Answered)
-    → AreDefs client.defs → Reads client.defs line (Err fault) → Writes written written' (fault_outcome fault) how → Answering client seen seen patience patience line written written' how
-answered_fault client seen patience line fault written written' how defs reads writes =
+pub answered_fault : (client : Client) (label : Option ℕ) (seen : List Entry) (patience : PatienceState) (line : List ℕ) (fault : CommandFault) (written written' : Option (List ℕ)) (how : Answered)
+    → AreDefs client.defs → Reads client.defs line (Err fault) → Writes label written written' (fault_outcome fault) how → Answering client label seen seen patience patience line written written' how
+answered_fault client label seen patience line fault written written' how defs reads writes =
     let exchange : Exchange = record { line = line; grown = []; outcome = fault_outcome fault; patience = patience } in
     let does : Does client seen patience exchange (Err fault) = record { none = refl; told = refl; kept = refl } in
     record {

@@ -11,8 +11,9 @@ use Rattle.q4_flow.proofs.Known.{gave_nothing, gave_more, took_nothing, took_mor
 use Rattle.q4_def.specs.declared.table_def.TableDef.{TableDef}
 use Rattle.q4_machine.specs.declared.entry.Entry.{Entry}
 use Rattle.q4_machine.specs.Patience.{PatienceState}
+use Rattle.q4_proto.specs.Told as told
 use Rattle.q4_proto.specs.Told.{Told, Bye}
-use Rattle.q4_proto.specs.Text.{text}
+use Rattle.q4_proto.specs.Text.{text, text_behind}
 use Rattle.q4_session.specs.declared.answering.Answered.{Answered}
 use Rattle.q4_session.specs.declared.answering.Answered.TheVariants as answered
 use Rattle.q4_session.specs.declared.sessions.SessionEnd.{SessionEnd}
@@ -104,7 +105,22 @@ pub record Lined (client : Client) (here now : Around) (pending rest line : List
   pub gave : Gave here.left now.left taken
   pub cut : pending ++ taken ≡ line ++ 10 ∷ rest
   pub open_line : IsOpenLine line
-  pub answering : Answering client here.seen now.seen here.patience now.patience line here.written now.written how
+  pub answering : Answering client None here.seen now.seen here.patience now.patience line here.written now.written how
+
+-- behind no label the text is the outcome's own
+plain_text : (outcome : Told) → text_behind None outcome ≡ text outcome
+plain_text told.Ok = refl
+plain_text (told.Number number) = refl
+plain_text (told.Seen mark) = refl
+plain_text (told.Rows rows) = refl
+plain_text told.Bye = refl
+plain_text (told.Refused code) = refl
+
+plain_took : (old now : Option (List ℕ)) (outcome : Told) → Took old now (text_behind None outcome) → Took old now (text outcome)
+plain_took old now outcome took = subst (Took old now) (plain_text outcome) took
+
+plain_front : (old now : Option (List ℕ)) (outcome : Told) → TookFront old now (text_behind None outcome) → TookFront old now (text outcome)
+plain_front old now outcome took = subst (TookFront old now) (plain_text outcome) took
 
 -- a line after which the session goes on
 pub goes_on_more : (client : Client) (old here now : Around) (pending rest line : List ℕ) → Conversing client old here pending → Lined client here now pending rest line answered.Next → Conversing client old now rest
@@ -120,7 +136,7 @@ goes_on_more client old here now pending rest line so_far lined =
       patience = more.patience;
       read = more.read;
       goes_on = All-push (λ (x : Exchange). x.outcome ≢ Bye) so_far.exchanges e so_far.goes_on answering.writes.1;
-      wrote = wrote_push old.written here.written now.written so_far.exchanges e so_far.wrote answering.writes.0;
+      wrote = wrote_push old.written here.written now.written so_far.exchanges e so_far.wrote (plain_took here.written now.written answering.outcome answering.writes.0);
     }
 
 -- a line that was answered `bye`
@@ -129,7 +145,7 @@ ends_by_quit client old here now pending rest line ended so_far lined =
     let answering = lined.answering in
     let e : Exchange = record { line = line; grown = answering.grown; outcome = answering.outcome; patience = now.patience } in
     let more = pushed client old here now pending rest lined.taken e so_far lined.gave lined.cut lined.open_line answering.history refl answering.exchange in
-    let wrote = wrote_push old.written here.written now.written so_far.exchanges e so_far.wrote answering.writes.0 in
+    let wrote = wrote_push old.written here.written now.written so_far.exchanges e so_far.wrote (plain_took here.written now.written answering.outcome answering.writes.0) in
     record {
       exchanges = so_far.exchanges ++ e ∷ [];
       rest = rest;
@@ -158,7 +174,7 @@ ends_by_fault client old here now pending rest line ended so_far lined =
       history = more.history;
       patience = more.patience;
       read = more.read;
-      concludes = inl (record { front = so_far.exchanges; last = e; cut = refl; goes_on = so_far.goes_on; wrote = wrote_front old.written here.written now.written (texts_of so_far.exchanges) (text answering.outcome) so_far.wrote answering.writes });
+      concludes = inl (record { front = so_far.exchanges; last = e; cut = refl; goes_on = so_far.goes_on; wrote = wrote_front old.written here.written now.written (texts_of so_far.exchanges) (text answering.outcome) so_far.wrote (plain_front here.written now.written answering.outcome answering.writes) });
     }
 
 -- ## The end of the input
@@ -219,15 +235,15 @@ ends_by_words client old here now pending rest ended how result outcome so_far s
 
 -- the definitions, the limit and the caller of a desk don't change
 pub answering_as : (d e : List TableDef) (l m a b s : ℕ) (seen seen' : List Entry) (patience patience' : PatienceState) (line : List ℕ) (written written' : Option (List ℕ)) (how : Answered) → d ≡ e → l ≡ m → a ≡ b
-    → Answering (record { defs = d; limit = l; caller = a; session = s }) seen seen' patience patience' line written written' how → Answering (record { defs = e; limit = m; caller = b; session = s }) seen seen' patience patience' line written written' how
+    → Answering (record { defs = d; limit = l; caller = a; session = s }) None seen seen' patience patience' line written written' how → Answering (record { defs = e; limit = m; caller = b; session = s }) None seen seen' patience patience' line written written' how
 answering_as d e l m a b s seen seen' patience patience' line written written' how defined limit caller answering =
-    subst (λ (k : ℕ). Answering (record { defs = e; limit = m; caller = k; session = s }) seen seen' patience patience' line written written' how) caller
-    (subst (λ (n : ℕ). Answering (record { defs = e; limit = n; caller = a; session = s }) seen seen' patience patience' line written written' how) limit
-    (subst (λ (ds : List TableDef). Answering (record { defs = ds; limit = l; caller = a; session = s }) seen seen' patience patience' line written written' how) defined answering))
+    subst (λ (k : ℕ). Answering (record { defs = e; limit = m; caller = k; session = s }) None seen seen' patience patience' line written written' how) caller
+    (subst (λ (n : ℕ). Answering (record { defs = e; limit = n; caller = a; session = s }) None seen seen' patience patience' line written written' how) limit
+    (subst (λ (ds : List TableDef). Answering (record { defs = ds; limit = l; caller = a; session = s }) None seen seen' patience patience' line written written' how) defined answering))
 
 -- a line that `next` gave, from the reader's fields
 pub lined : (client : Client) (here now : Around) (reading reading' : Reading) (ended : Type 0) (line : List ℕ) (how : Answered) → reading.stopped ≡ None → Next reading reading' here.left now.left ended found.Line → line ≡ reading'.line
-    → Answering client here.seen now.seen here.patience now.patience line here.written now.written how → Lined client here now reading.pending reading'.pending line how
+    → Answering client None here.seen now.seen here.patience now.patience line here.written now.written how → Lined client here now reading.pending reading'.pending line how
 lined client here now reading reading' ended line how going next same answering =
     let takes = takes_of reading reading' here.left now.left ended found.Line next going in
     record {

@@ -12,11 +12,11 @@ use Rattle.q4_session.specs.Exchanges.{Client, Obeys, Uses, call_of, answer_outc
 use Rattle.q4_session.specs.Answering.{Obeying, Writes}
 
 -- a call that the desk did, and what was written of its answer
-pub obeyed : (client : Client) (seen seen' : List Entry) (patience patience' : PatienceState) (command done : Command) (call : Call) (answer : Answer) (outcome : Told) (written written' : Option (List ℕ)) (how : Answered)
+pub obeyed : (client : Client) (label : Option ℕ) (seen seen' : List Entry) (patience patience' : PatienceState) (command done : Command) (call : Call) (answer : Answer) (outcome : Told) (written written' : Option (List ℕ)) (how : Answered)
     → command ≡ done → call_of done ≡ Some call → Grows seen seen' (λ grown. IsPart client.limit seen grown client.caller client.session call answer) → Uses done patience patience' answer
-    → outcome ≡ answer_outcome answer → Writes written written' outcome how → Obeying client seen seen' patience patience' command written written' how
-obeyed client seen seen' patience patience' command done call answer outcome written written' how same is grows uses told writes =
-    subst (λ (k : Command). Obeying client seen seen' patience patience' k written written' how) (sym same) (record {
+    → outcome ≡ answer_outcome answer → Writes label written written' outcome how → Obeying client label seen seen' patience patience' command written written' how
+obeyed client label seen seen' patience patience' command done call answer outcome written written' how same is grows uses told writes =
+    subst (λ (k : Command). Obeying client label seen seen' patience patience' k written written' how) (sym same) (record {
       grown = grows.0;
       outcome = outcome;
       history = grows.1;
@@ -26,10 +26,10 @@ obeyed client seen seen' patience patience' command done call answer outcome wri
     })
 
 -- to quit asks the desk for nothing
-pub quits : (client : Client) (seen : List Entry) (patience : PatienceState) (command : Command) (written written' : Option (List ℕ)) (how : Answered)
-    → command ≡ Quit → Writes written written' Bye how → Obeying client seen seen patience patience command written written' how
-quits client seen patience command written written' how same writes =
-    subst (λ (k : Command). Obeying client seen seen patience patience k written written' how) (sym same) (record {
+pub quits : (client : Client) (label : Option ℕ) (seen : List Entry) (patience : PatienceState) (command : Command) (written written' : Option (List ℕ)) (how : Answered)
+    → command ≡ Quit → Writes label written written' Bye how → Obeying client label seen seen patience patience command written written' how
+quits client label seen patience command written written' how same writes =
+    subst (λ (k : Command). Obeying client label seen seen patience patience k written written' how) (sym same) (record {
       grown = [];
       outcome = Bye;
       history = sym (append-nil seen);

@@ -6,8 +6,9 @@ mod laws;
 mod outcomes;
 mod sessions;
 
-pub use answering::{Answered, answer};
+pub use answering::{Answered, answer, answer_behind};
 pub use laws::granted_lines_are_done;
+pub use outcomes::{desk_refusal, refused};
 pub use sessions::{SessionEnd, session};
 
 #[cfg(test)]

@@ -8,8 +8,8 @@ use q4_machine::{DeskFault, InsertFault, ModeFault};
 use q4_proto::{Code, CommandFault, Outcome, refusal_of};
 use q4_table::Added;
 
-// A refusal whose line has no number.
-pub(crate) fn refused(number: u16) -> Outcome<'static>
+/// A refusal whose line has no number.
+pub fn refused(number: u16) -> Outcome<'static>
     ensures { told result ≡ Refused (code number) }
 {
     Outcome::Refused(Code {
@@ -29,7 +29,8 @@ fn refused_at(number: u16, first: u64) -> Outcome<'static>
     })
 }
 
-pub(crate) fn desk_refusal(fault: DeskFault) -> Outcome<'static>
+/// What a line is answered where its call, or the opening of its session, was refused so.
+pub fn desk_refusal(fault: DeskFault) -> Outcome<'static>
     ensures told { told result ≡ answer_outcome (fault_answer fault) }
     ensures listed { IsOutcome (told result) }
 {

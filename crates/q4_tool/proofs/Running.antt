@@ -5,7 +5,7 @@ use Rattle.q4_def.specs.declared.table_def.TableDef.{TableDef}
 use Rattle.q4_tool.specs.declared.definitions.Undefined.{Undefined}
 use Rattle.q4_tool.specs.declared.definitions.Undefined.TheVariants.{Faulty, TooLong, ReadFault, Memory}
 use Rattle.q4_tool.specs.Definitions.{Comes, undefined_line, undefined_status}
-use Rattle.q4_tool.specs.Tool.{Prints, Says, Ran, RunsDefined}
+use Rattle.q4_tool.specs.Tool.{Prints, Says, Defined}
 
 -- whatever came, some bytes did
 gave_some : (left left' : Option (List ℕ)) (ended failed : Type 0) (came : Result (List TableDef) Undefined) → Comes left left' ended failed came → Comes left left' ended failed (Err Memory)
@@ -23,23 +23,23 @@ other_fault : (faults faults' : ℕ) (why : Undefined) → why ≢ ReadFault →
 other_fault faults faults' why other (inl same) = same
 other_fault faults faults' why other (inr is) = absurd (other (cc is))
 
--- definitions came, and the session ran or wanted memory
-pub ran_defined : (text text' : Option (List ℕ)) (text_ended : Type 0) (faults faults' : ℕ) (left left' : Option (List ℕ)) (ended untouched : Type 0) (written written' : Option (List ℕ)) (status : ℕ) (defs : List TableDef)
+-- definitions came, and what they were for was done, or memory was wanted
+pub done_defined : (text text' : Option (List ℕ)) (text_ended : Type 0) (faults faults' : ℕ) (done : List TableDef → Type 0) (left left' written written' : Option (List ℕ)) (status : ℕ) (defs : List TableDef)
     → Comes text text' text_ended (Rose faults faults') (Ok defs) → (faults' ≡ faults) ⊎ (◌≡◌ {A = Result (List TableDef) Undefined} (Ok defs) (Err ReadFault))
-    → Ran defs left left' ended untouched written written' status ⊎ Says (undefined_line Memory) 9 left left' written written' status
-    → RunsDefined text text' text_ended faults faults' left left' ended untouched written written' status
-ran_defined text text' text_ended faults faults' left left' ended untouched written written' status defs comes stayed (inl ran) = record { came = Ok defs; comes = comes; stayed = stayed; runs = ran }
-ran_defined text text' text_ended faults faults' left left' ended untouched written written' status defs comes stayed (inr says) =
-    record { came = Err Memory; comes = gave_some text text' text_ended (Rose faults faults') (Ok defs) comes; stayed = inl (no_fault faults faults' defs stayed); runs = says }
+    → done defs ⊎ Says (undefined_line Memory) 9 left left' written written' status
+    → Defined text text' text_ended faults faults' done left left' written written' status
+done_defined text text' text_ended faults faults' done left left' written written' status defs comes stayed (inl is_done) = record { came = Ok defs; comes = comes; stayed = stayed; does = is_done }
+done_defined text text' text_ended faults faults' done left left' written written' status defs comes stayed (inr says) =
+    record { came = Err Memory; comes = gave_some text text' text_ended (Rose faults faults') (Ok defs) comes; stayed = inl (no_fault faults faults' defs stayed); does = says }
 
 -- none came, and it was said why, or memory was wanted
-pub refused_defined : (text text' : Option (List ℕ)) (text_ended : Type 0) (faults faults' : ℕ) (left : Option (List ℕ)) (ended untouched : Type 0) (written written' : Option (List ℕ)) (status : ℕ) (why : Undefined)
+pub refused_defined : (text text' : Option (List ℕ)) (text_ended : Type 0) (faults faults' : ℕ) (done : List TableDef → Type 0) (left written written' : Option (List ℕ)) (status : ℕ) (why : Undefined)
     → Comes text text' text_ended (Rose faults faults') (Err why) → (faults' ≡ faults) ⊎ (◌≡◌ {A = Result (List TableDef) Undefined} (Err why) (Err ReadFault))
     → Prints (undefined_line why) (undefined_status why) written written' status ⊎ ((why ≢ ReadFault) × Prints (undefined_line Memory) 9 written written' status)
-    → RunsDefined text text' text_ended faults faults' left left ended untouched written written' status
-refused_defined text text' text_ended faults faults' left ended untouched written written' status why comes stayed (inl prints) = record { came = Err why; comes = comes; stayed = stayed; runs = (refl, prints) }
-refused_defined text text' text_ended faults faults' left ended untouched written written' status why comes stayed (inr prints) =
-    record { came = Err Memory; comes = gave_some text text' text_ended (Rose faults faults') (Err why) comes; stayed = inl (other_fault faults faults' why prints.0 stayed); runs = (refl, prints.1) }
+    → Defined text text' text_ended faults faults' done left left written written' status
+refused_defined text text' text_ended faults faults' done left written written' status why comes stayed (inl prints) = record { came = Err why; comes = comes; stayed = stayed; does = (refl, prints) }
+refused_defined text text' text_ended faults faults' done left written written' status why comes stayed (inr prints) =
+    record { came = Err Memory; comes = gave_some text text' text_ended (Rose faults faults') (Err why) comes; stayed = inl (other_fault faults faults' why prints.0 stayed); does = (refl, prints.1) }
 
 -- a source whose count rose failed
 pub rose_unread : (why : Undefined) (before now : ℕ) → (now ≡ before) ⊎ (◌≡◌ {A = Result (List TableDef) Undefined} (Err why) (Err ReadFault)) → before < now → why ≡ ReadFault

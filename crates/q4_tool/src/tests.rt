@@ -255,7 +255,16 @@ fn faults(rt: HostRuntime) {
 #[test]
 fn other_words(rt: HostRuntime) {
     let alloc = rt.alloc();
-    let cases: [&[&str]; 5] = [&[], &["run", "x"], &["Run"], &["run "], &[""]];
+    let cases: [&[&str]; 8] = [
+        &[],
+        &["run", "x"],
+        &["Run"],
+        &["run "],
+        &[""],
+        &["play", "x"],
+        &["run", "play"],
+        &["plays"],
+    ];
     for words in cases {
         for (failing, written, status) in [
             ([].as_slice(), b"words\n".as_slice(), 2),
@@ -267,4 +276,88 @@ fn other_words(rt: HostRuntime) {
             check_done(&rt, &done, written, status);
         }
     }
+}
+
+// What `play` reads and writes, and its status. The last two are the scenarios of the program's data folder, byte by byte.
+const PLAYS: [(&[u8], &[u8], u8); 8] = [
+    (b"", b"", 0),
+    (
+        b"1 insert\tjobs\t1\ta\n1 insert\tjobs\t1\tb\n1 wait\tjobs:body='a'\t=0\n2 wait\tjobs:body='a'\t=0\n1 abort\n2 wait\tjobs\t=0\n2 rowid\n",
+        b"1 ok\t1\n1 ok\t2\n1 ok\t1\n2 ok\t0\n1 ok\n2 ok\t1\n2 ok\t1\n",
+        0,
+    ),
+    (
+        b"1 insert\tjobs\t7\ta\n1 wait\tjobs\t=0\n1\n2 wait\tjobs\t=0\n2 rowid\n",
+        b"1 ok\t1\n1 ok\t1\n2 ok\t1\n2 ok\t1\n",
+        0,
+    ),
+    (
+        b"0 end\n1 end\n1 quit\n1\n65 end\n",
+        b"0 err\t15\tbad label\n1 err\t31\tnot in owner mode\n1 bye\n0 err\t15\tbad label\n",
+        0,
+    ),
+    (
+        b"1 end\n1 ",
+        b"1 err\t31\tnot in owner mode\n0 err\t61\tpartial line\n",
+        6,
+    ),
+    // No time is waited.
+    (b"7 wait\tjobs\t=3600\n", b"7 ok\t0\n", 0),
+    (
+        b"1 insert\tjobs\t2\tpaint\n1 insert\tjobs\t9\trepair\n2 wait\tjobs:prio>=5\t=0\n2 rowid\n3 wait\tjobs:body='paint'\tjobs\t=0\n3 rowid\n2 end\n3 end\n1 select\tjobs\t10\n",
+        b"1 ok\t1\n1 ok\t2\n2 ok\t1\n2 ok\t2\n3 ok\t1\n3 ok\t1\n2 ok\n3 ok\n1 rows\t0\n",
+        0,
+    ),
+    (
+        b"1 insert\tjobs\t5\tresize a.png\n2 wait\tjobs\n3 wait\tjobs\t=0\n2\n3 wait\tjobs\t=0\n3 rowid\n3 end\n1 select\tjobs\t10\n",
+        b"1 ok\t1\n2 ok\t1\n3 ok\t0\n3 ok\t1\n3 ok\t1\n3 ok\n1 rows\t0\n",
+        0,
+    ),
+];
+
+#[test]
+fn plays(rt: HostRuntime) {
+    let alloc = rt.alloc();
+    for (input, replies, status) in PLAYS {
+        for most in [1, 4096] {
+            let mut source = in_pieces(&rt, alloc, input, &[], most);
+            let mut definitions = at_once(&rt, alloc, TWO_TABLES);
+            let done = run_tool(&rt, alloc, &["play"], &mut source, &mut definitions, &[]);
+            check_done(&rt, &done, replies, status);
+        }
+    }
+    let input = long_input(&rt, alloc, b"1 ", 4_194_302, b"");
+    let mut source = in_pieces(&rt, alloc, &input, &[], 100_000_000);
+    let mut definitions = at_once(&rt, alloc, b"");
+    let done = run_tool(&rt, alloc, &["play"], &mut source, &mut definitions, &[]);
+    check_done(&rt, &done, b"0 err\t60\tline too long\n", 6);
+}
+
+// The reads of at most 20 bytes and the writes with these numbers fail.
+const FAULTY_PLAYS: [(&[u8], &[u64], &[u64], &[u8], u8); 3] = [
+    (
+        b"1 insert\tjobs\t7\ta\n1 wait\tjobs\n",
+        &[2],
+        &[],
+        b"1 ok\t1\n",
+        8,
+    ),
+    (b"1 insert\tjobs\t7\ta\n2 end\n", &[], &[2], b"1 ok\t1\n", 7),
+    (b"1", &[], &[1], b"", 7),
+];
+
+#[test]
+fn faulty_plays(rt: HostRuntime) {
+    let alloc = rt.alloc();
+    for (input, reads, writes, replies, status) in FAULTY_PLAYS {
+        let mut source = in_pieces(&rt, alloc, input, reads, 20);
+        let mut definitions = at_once(&rt, alloc, b"");
+        let done = run_tool(&rt, alloc, &["play"], &mut source, &mut definitions, writes);
+        check_done(&rt, &done, replies, status);
+    }
+    // Definitions with a fault: nothing is played.
+    let mut source = in_pieces(&rt, alloc, b"1 quit\n", &[1], 20);
+    let mut definitions = at_once(&rt, alloc, BAD_KIND);
+    let done = run_tool(&rt, alloc, &["play"], &mut source, &mut definitions, &[]);
+    check_done(&rt, &done, b"definitions: bad kind 1 1\n", 3);
 }

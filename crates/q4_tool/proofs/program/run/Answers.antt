@@ -19,10 +19,12 @@ returns-in-Ok-clause-ran g c =
     (IsTrue (g.S.Source.ended c.session-end.new.source)) (c.session-end.new.source ≡ c.args.input.now) c.session-end.result in
     inl (record {
       history = history;
-      legal = c.session-end.ensures.in_order.legal;
-      by_zero = subst (All (λ (e : Entry). e.caller ≡ 0)) told.seen told.sound.by_zero;
-      settled = λ place. subst (λ (h : List Entry). IsSettled h place) told.seen (told.settled place);
-      owed = c.session-end.ensures.in_order.owed;
+      own = record {
+        legal = c.session-end.ensures.in_order.legal;
+        by_zero = subst (All (λ (e : Entry). e.caller ≡ 0)) told.seen told.sound.by_zero;
+        settled = λ place. subst (λ (h : List Entry). IsSettled h place) told.seen (told.settled place);
+        owed = c.session-end.ensures.in_order.owed;
+      };
       patience = c.session-end.new.patience;
       how = c.session-end.result;
       session = subst (λ (defs : List TableDef). over defs (opened_new c.args.defs ∷ []) fresh_patience) (defined_new c.args.defs)

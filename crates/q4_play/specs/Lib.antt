@@ -1,0 +1,5 @@
+pub mod Labels
+pub mod Seated
+pub mod Turns
+pub mod Plays
+pub mod Playing

@@ -1,0 +1,12 @@
+//! Plays: many sessions on one thread, each behind a label, so that a whole scenario stands in one file.
+#![tactic(auto)]
+
+mod labels;
+mod plays;
+mod seating;
+mod turns;
+
+pub use plays::{PlayEnd, play};
+
+#[cfg(test)]
+mod tests;
