@@ -92,8 +92,8 @@ pub record WasWorn (limit : ℕ) (before grown : List Entry) (count : ℕ) : Typ
   pub count_is : count ≡ length (before ++ start)
   pub worn : IsWorn limit (before ++ start)
 
--- A look left its end in this part of the history, settled, and nothing else.
-pub record LeftEnd (before start grown : List Entry) (caller session : ℕ) (call : Call) : Type 0 where
+-- A look left its end in this part of the history, settled, and nothing else. Where it ended the history had room.
+pub record LeftEnd (limit : ℕ) (before start grown : List Entry) (caller session : ℕ) (call : Call) : Type 0 where
   pub front : List Entry
   pub back : List Entry
   pub ended : Entry
@@ -101,6 +101,7 @@ pub record LeftEnd (before start grown : List Entry) (caller session : ℕ) (cal
   pub first : first_calls before caller session call ≡ ended ∷ []
   pub alone : calls_of caller grown ≡ ended ∷ []
   pub settled : IsSettled (before ++ start) (length (before ++ front))
+  pub had_room : HadRoom limit before front caller
 
 -- The own entry stands where there is a reply. Else there is none, but where the history was full after a look had paused
 -- it has left its end.
@@ -108,7 +109,7 @@ abbrev pub Cases : ℕ → List Entry → List Entry → ℕ → ℕ → Call �
 Cases limit before grown caller session call (Replied reply) = Stands limit before grown caller session call reply
 Cases limit before grown caller session call WantsMemory = calls_of caller grown ≡ []
 Cases limit before grown caller session call (Worn count) =
-    (worn : WasWorn limit before grown count) × ((calls_of caller grown ≡ []) ⊎ LeftEnd before worn.start grown caller session call)
+    (worn : WasWorn limit before grown count) × ((calls_of caller grown ≡ []) ⊎ LeftEnd limit before worn.start grown caller session call)
 
 -- The part of one call: what the history grew by while it ran. The caller's entries there are of its session.
 pub record IsPart (limit : ℕ) (before grown : List Entry) (caller session : ℕ) (call : Call) (answer : Answer) : Type 0 where
