@@ -5,3 +5,4 @@ pub mod Speaking
 pub mod Closing
 pub mod Taking
 pub mod Causing
+pub mod Gone

@@ -122,7 +122,7 @@ open_push history e caller k next was unclosed = record {
       unclosed (some_is e.caller caller (sym by ∙ was.opened_by)) (sym same) close
 
 -- the entry behind any cut may come next there
-next_of : (history : List Entry) → IsLegal history → (b : Entry) (bs : List Entry) (e : Entry) (later : List Entry) → history ≡ b ∷ (bs ++ e ∷ later) → IsNext (b ∷ bs) e
+pub next_of : (history : List Entry) → IsLegal history → (b : Entry) (bs : List Entry) (e : Entry) (later : List Entry) → history ≡ b ∷ (bs ++ e ∷ later) → IsNext (b ∷ bs) e
 next_of history legal b bs e later is =
     subst (λ (x : Entry). IsNext (x ∷ bs) e) (cons_head (sym legal.whole ∙ is)) (legal.each bs e later (cons_tail (sym legal.whole ∙ is)))
 

@@ -2,10 +2,12 @@
 #![tactic(auto)]
 
 mod labels;
+mod laws;
 mod plays;
 mod seating;
 mod turns;
 
+pub use laws::closed_sessions_stay_closed;
 pub use plays::{PlayEnd, play};
 
 #[cfg(test)]
