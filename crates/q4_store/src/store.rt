@@ -69,6 +69,8 @@ impl<D: Disk> Store<D> {
         ensures reads { IfOk result (λ opened. IsTrue (D.told disk).honest → Reads def.now.columns (D.told disk).bytes opened.1 opened.0.generation) }
         ensures stands { IfOk result (λ opened. StandsFor D.told opened.0 (record { committed = opened.1; pending = [] })) }
         ensures fresh { IfOk result (λ opened. (opened.0.failed ≡ false) × (opened.0.records ≡ []) × (opened.1.columns ≡ def.now.columns)) }
+        // Whatever the disk tells.
+        ensures generation { IfOk result (λ opened. (1 ≤ opened.0.generation) × (opened.0.generation ≤ 2 ^ 62)) }
         // At each moment inside it each image reads as one that there was.
         ensures any_moment { IfOk result (λ opened. IsTrue (D.told disk).honest
             → LeavesOnly (D.told disk) (D.told opened.0.disk) (ReadsAs def.now.columns (D.told disk).images)) }
