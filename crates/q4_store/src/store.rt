@@ -1,12 +1,14 @@
-ghost use Rattle.std.specs.Prelude.{◌≡◌, ◌+◌, ◌-◌, ◌*◌, ◌≤◌, ◌<◌, ◌^◌, ◌++◌, ◌↔◌, ℕ, Bool, true, false, None, List, [], ◌∷◌, All, IsTrue, IsOk, IsErr, IfOk, IfErr, OnOk, OnErr, length, vec_capacity};
+ghost use Rattle.std.specs.Prelude.{◌≡◌, ◌≢◌, ◌+◌, ◌-◌, ◌*◌, ◌≤◌, ◌<◌, ◌^◌, ◌++◌, ◌↔◌, ℕ, Bool, true, false, None, List, [], ◌∷◌, All, IsTrue, IsOk, IsErr, IfOk, IfErr, OnOk, OnErr, length, vec_capacity};
 ghost use Rattle.q4_value.specs.Names.{AreColumns};
 ghost use Rattle.q4_value.specs.Row.{IsValue};
 ghost use Rattle.q4_record.specs.Record.{record_bytes};
 ghost use Rattle.q4_disk.specs.Told.{Sides, Told};
+ghost use Rattle.q4_disk.specs.Images.{on, written};
 ghost use Rattle.q4_disk.specs.Time.{LeavesOnly};
 ghost use Rattle.q4_disk.specs.Calls.{bump};
 ghost use Rattle.q4_store.specs.Reading.{Reads, ReadsAs};
 ghost use Rattle.q4_store.specs.Opening.{OpenFails, CountsOpen};
+ghost use Rattle.q4_store.specs.Commit.{sealed};
 ghost use Rattle.q4_store.specs.Content.{Content, row_added, row_ended, with_change, all_committed, IsPrefix};
 ghost use Rattle.q4_store.specs.Store.{StandsFor, TakesRow, HasRow, IsOver, IsRefused, length_of, cost_of, pending_length, batch_size};
 
@@ -246,6 +248,9 @@ impl<D: Disk> Store<D> {
         ensures done { OnOk result ((content : Content) → StandsFor D.told self.old content → StandsFor D.told self.new (all_committed content)) }
         ensures open { OnErr result ((content : Content) → StandsFor D.told self.old content → StandsFor D.told self.new content) }
         ensures committed { OnOk result (self.new ≡ record self.old { disk = self.new.disk; end = length_of self.old; records = []; reserved = self.new.reserved }) }
+        // What the side reads as then: the batch stands from the old closing gate on, which is open, and it ends with a closed one.
+        ensures bytes { OnOk result (IsTrue (D.told self.old.disk).honest → self.old.records ≢ []
+            → on self.old.side (D.told self.new.disk).bytes ≡ written (written (on self.old.side (D.told self.old.disk).bytes) self.old.end (sealed self.old.records)) (self.old.end - 1) (1 ∷ [])) }
         ensures failed { OnErr result (self.new ≡ record self.old { disk = self.new.disk; failed = true }) }
         ensures length { length_of self.new ≡ length_of self.old }
         ensures honest { (D.told self.new.disk).honest ≡ (D.told self.old.disk).honest }
