@@ -8,7 +8,7 @@ ghost use Rattle.q4_disk.specs.Calls.{CountsFault};
 ghost use Rattle.q4_store.specs.Reading.{Reads, ReadsAs};
 ghost use Rattle.q4_store.specs.Parts.{IsShut};
 ghost use Rattle.q4_store.specs.Store.{IsSettled};
-ghost use Rattle.q4_store.specs.Opening.{CountsOpen, OpenFails};
+ghost use Rattle.q4_store.specs.Opening.{CountsOpen, IsChosen, OpenFails};
 ghost use Rattle.q4_store.specs.Looking.{AddsNone, IsStill, IsHead, IsChoice};
 
 use crate::creating::{create, make_draft};
@@ -49,6 +49,7 @@ pub(crate) fn find<D: Disk>(
     ensures any_moment { IsTrue (D.told disk.old).honest → LeavesOnly (D.told disk.old) (D.told disk.new) (ReadsAs columns.now (D.told disk.old).images) }
     ensures sound { IfOk result (λ found. (bytes : List ℕ) × IsSide columns.now bytes found.table found.generation found.end) }
     ensures reads { IfOk result (λ found. IsTrue (D.told disk.old).honest → Reads columns.now (D.told disk.old).bytes found.table found.generation) }
+    ensures side { IfOk result (λ found. IsTrue (D.told disk.old).honest → IsChosen (D.told disk.old).bytes found.side) }
     ensures settled { IfOk result (λ found. IsTrue (D.told disk.old).honest → IsSettled (D.told disk.new) found.side found.table found.generation found.end) }
     ensures known { IfOk result (λ found. IsTrue (D.told disk.old).honest → found.known ≡ true → Within (D.told disk.new).images (λ c. IsShut (on (other found.side) c))) }
     ensures fails { IfErr result (λ fault. IsTrue (D.told disk.old).honest → OpenFails columns.now (D.told disk.old).bytes fault) }
@@ -77,6 +78,7 @@ fn find_by<D: Disk>(
     ensures any_moment { IsTrue (D.told disk.old).honest → LeavesOnly (D.told disk.old) (D.told disk.new) (ReadsAs columns.now (D.told disk.old).images) }
     ensures sound { IfOk result (λ found. (bytes : List ℕ) × IsSide columns.now bytes found.table found.generation found.end) }
     ensures reads { IfOk result (λ found. IsTrue (D.told disk.old).honest → Reads columns.now (D.told disk.old).bytes found.table found.generation) }
+    ensures side { IfOk result (λ found. IsTrue (D.told disk.old).honest → IsChosen (D.told disk.old).bytes found.side) }
     ensures settled { IfOk result (λ found. IsTrue (D.told disk.old).honest → IsSettled (D.told disk.new) found.side found.table found.generation found.end) }
     ensures known { IfOk result (λ found. IsTrue (D.told disk.old).honest → found.known ≡ true → Within (D.told disk.new).images (λ c. IsShut (on (other found.side) c))) }
     ensures fails { IfErr result (λ fault. IsTrue (D.told disk.old).honest → OpenFails columns.now (D.told disk.old).bytes fault) }
@@ -130,6 +132,7 @@ fn find_current<D: Disk>(
     ensures any_moment { IsTrue (D.told disk.old).honest → LeavesOnly (D.told disk.old) (D.told disk.new) (ReadsAs columns.now (D.told disk.old).images) }
     ensures sound { IfOk result (λ found. (bytes : List ℕ) × IsSide columns.now bytes found.table found.generation found.end) }
     ensures reads { IfOk result (λ found. IsTrue (D.told disk.old).honest → Reads columns.now (D.told disk.old).bytes found.table found.generation) }
+    ensures side { IfOk result (λ found. IsTrue (D.told disk.old).honest → IsChosen (D.told disk.old).bytes found.side) }
     ensures settled { IfOk result (λ found. IsTrue (D.told disk.old).honest → IsSettled (D.told disk.new) found.side found.table found.generation found.end) }
     ensures known { IfOk result (λ found. IsTrue (D.told disk.old).honest → found.known ≡ true → Within (D.told disk.new).images (λ c. IsShut (on (other found.side) c))) }
     ensures fails { IfErr result (λ fault. IsTrue (D.told disk.old).honest → OpenFails columns.now (D.told disk.old).bytes fault) }
@@ -163,6 +166,7 @@ fn make_new<D: Disk>(
     ensures any_moment { IsTrue (D.told disk.old).honest → LeavesOnly (D.told disk.old) (D.told disk.new) (ReadsAs columns.now (D.told disk.old).images) }
     ensures sound { IfOk result (λ found. (bytes : List ℕ) × IsSide columns.now bytes found.table found.generation found.end) }
     ensures reads { IfOk result (λ found. IsTrue (D.told disk.old).honest → Reads columns.now (D.told disk.old).bytes found.table found.generation) }
+    ensures side { IfOk result (λ found. IsTrue (D.told disk.old).honest → IsChosen (D.told disk.old).bytes found.side) }
     ensures settled { IfOk result (λ found. IsTrue (D.told disk.old).honest → IsSettled (D.told disk.new) found.side found.table found.generation found.end) }
     ensures known { IfOk result (λ found. IsTrue (D.told disk.old).honest → found.known ≡ true → Within (D.told disk.new).images (λ c. IsShut (on (other found.side) c))) }
     ensures fails { IfErr result (λ fault. IsTrue (D.told disk.old).honest → OpenFails columns.now (D.told disk.old).bytes fault) }

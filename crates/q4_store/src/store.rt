@@ -7,7 +7,7 @@ ghost use Rattle.q4_disk.specs.Images.{on, written};
 ghost use Rattle.q4_disk.specs.Time.{LeavesOnly};
 ghost use Rattle.q4_disk.specs.Calls.{bump};
 ghost use Rattle.q4_store.specs.Reading.{Reads, ReadsAs};
-ghost use Rattle.q4_store.specs.Opening.{OpenFails, CountsOpen};
+ghost use Rattle.q4_store.specs.Opening.{IsChosen, OpenFails, CountsOpen};
 ghost use Rattle.q4_store.specs.Commit.{sealed};
 ghost use Rattle.q4_store.specs.Content.{Content, row_added, row_ended, with_change, all_committed, IsPrefix};
 ghost use Rattle.q4_store.specs.Store.{StandsFor, TakesRow, HasRow, IsOver, IsRefused, length_of, cost_of, pending_length, batch_size};
@@ -69,6 +69,8 @@ impl<D: Disk> Store<D> {
         requires { AreColumns def.now.columns }
         // What is given is what the two sides read as.
         ensures reads { IfOk result (λ opened. IsTrue (D.told disk).honest → Reads def.now.columns (D.told disk).bytes opened.1 opened.0.generation) }
+        // Its side is the one that counts, or side A where neither is open.
+        ensures side { IfOk result (λ opened. IsTrue (D.told disk).honest → IsChosen (D.told disk).bytes opened.0.side) }
         ensures stands { IfOk result (λ opened. StandsFor D.told opened.0 (record { committed = opened.1; pending = [] })) }
         ensures fresh { IfOk result (λ opened. (opened.0.failed ≡ false) × (opened.0.records ≡ []) × (opened.1.columns ≡ def.now.columns)) }
         // Whatever the disk tells.

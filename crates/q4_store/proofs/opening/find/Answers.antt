@@ -1,7 +1,10 @@
+use Rattle.std.proofs.Common.{◌∙◌}
 use Rattle.q4_disk.specs.Told.{Sides}
-use Rattle.q4_store.specs.Reading.{Reads}
-use Rattle.q4_store.specs.Opening.{OpenFails}
+use Rattle.q4_disk.proofs.Moments.{weaker}
+use Rattle.q4_store.specs.Reading.{Reads, ReadsAs}
+use Rattle.q4_store.specs.Opening.{IsChosen, OpenFails}
 use Rattle.q4_store.proofs.Finding.{ok_still, err_still}
+use Rattle.q4_store.proofs.Quiet.{as_itself, reads_then}
 use Rattle.q4_store.proofs.opening.find.Goals as goal
 
 pub returns-clause-reads : goal.returns-clause-reads
@@ -11,3 +14,14 @@ returns-clause-reads g c =
 pub returns-clause-fails : goal.returns-clause-fails
 returns-clause-fails g c =
     err_still c.find_by.result _ _ (λ (s : Sides) why. OpenFails c.args.columns.now s why) _ _ c.look.ensures.honest (λ h. (c.look.ensures.rests h).bytes) c.find_by.ensures.fails
+
+pub returns-clause-side : goal.returns-clause-side
+returns-clause-side g c =
+    ok_still c.find_by.result _ _ (λ (s : Sides) found. IsChosen s found.side) _ _ c.look.ensures.honest (λ h. (c.look.ensures.rests h).bytes) c.find_by.ensures.side
+
+pub returns-clause-any_moment : goal.returns-clause-any_moment
+returns-clause-any_moment g c h =
+    let columns = c.args.columns.now in
+    let images = (g.D.Disk.told c.args.disk.now).images in
+    let rests = c.look.ensures.rests h in
+    reads_then columns (g.D.Disk.told c.args.disk.now) _ _ (weaker _ _ images (ReadsAs columns images) rests.only (as_itself columns images)) (λ s left. as_itself columns images s (rests.images s left)) (c.find_by.ensures.any_moment (c.look.ensures.honest ∙ h))
