@@ -7,6 +7,7 @@ ghost use Rattle.q4_disk.specs.Images.{on, written};
 ghost use Rattle.q4_disk.specs.Time.{LeavesOnly};
 ghost use Rattle.q4_disk.specs.Calls.{bump};
 ghost use Rattle.q4_store.specs.Reading.{Reads, ReadsAs};
+ghost use Rattle.q4_store.specs.Looking.{OnlyReads, HasOpen};
 ghost use Rattle.q4_store.specs.Opening.{IsChosen, OpenFails, CountsOpen};
 ghost use Rattle.q4_store.specs.Commit.{sealed};
 ghost use Rattle.q4_store.specs.Content.{Content, row_added, row_ended, with_change, all_committed, IsPrefix};
@@ -80,6 +81,9 @@ impl<D: Disk> Store<D> {
             → LeavesOnly (D.told disk) (D.told opened.0.disk) (ReadsAs def.now.columns (D.told disk).images)) }
         ensures any_moment_err { IfErr result (λ refused. IsTrue (D.told disk).honest
             → LeavesOnly (D.told disk) (D.told refused.1) (ReadsAs def.now.columns (D.told disk).images)) }
+        // Where a side is open it writes nothing, and adds no image.
+        ensures rests { IfOk result (λ opened. IsTrue (D.told disk).honest → HasOpen (D.told disk).bytes → OnlyReads (D.told disk) (D.told opened.0.disk)) }
+        ensures rests_err { IfErr result (λ refused. IsTrue (D.told disk).honest → HasOpen (D.told disk).bytes → OnlyReads (D.told disk) (D.told refused.1)) }
         // Why they read as nothing. The disk's count rises where it failed, and only there.
         ensures fails { IfErr result (λ refused. IsTrue (D.told disk).honest → OpenFails def.now.columns (D.told disk).bytes refused.0) }
         ensures calm { IfOk result (λ opened. (D.told opened.0.disk).faults ≡ (D.told disk).faults) }
