@@ -1,5 +1,6 @@
 -- What opening finds on a disk of which a crash leaves only what is read.
-use Rattle.std.proofs.Common.{◌≡◌, ◌≢◌, ℕ, ◌+◌, Bool, IsTrue, List, [], ◌∷◌, ◌++◌, Result, Ok, Err, length, refl, sym, ◌∙◌, ap, subst, inl, inr, arith, length-append}
+use Rattle.std.proofs.Common.{◌≡◌, ◌≢◌, ◌⊎◌, ℕ, ◌+◌, Bool, IsTrue, List, [], ◌∷◌, ◌++◌, Result, Ok, Err, length, refl, sym, ◌∙◌, ap, subst, inl, inr, arith, length-append}
+use Rattle.std.proofs.Math.Logic.{⊎_elim}
 use Rattle.std.specs.Result.{IfOk, IfErr}
 use Rattle.q4_value.specs.declared.column.Column.{Column}
 use Rattle.q4_value.specs.Names.{AreColumns}
@@ -12,12 +13,13 @@ use Rattle.q4_record.proofs.Leading.{sound_side}
 use Rattle.q4_disk.specs.declared.disk.Side.{Side}
 use Rattle.q4_disk.specs.Told.{Sides, Told}
 use Rattle.q4_disk.specs.Images.{on, other}
+use Rattle.q4_disk.proofs.Moments.{weaker, then_only}
 use Rattle.q4_store.specs.declared.fault.OpenFault.{OpenFault}
 use Rattle.q4_store.specs.declared.fault.OpenFault.TheVariants as fault
 use Rattle.q4_store.specs.Reading.{HasMagic, IsBehind, IsCurrent}
 use Rattle.q4_store.specs.Store.{IsSettled}
 use Rattle.q4_store.specs.Opening.{CountsOpen, OpenFails}
-use Rattle.q4_store.specs.Looking.{AddsNone, IsStill, IsNoChoice, LoadFails, IsDraft, draft_length}
+use Rattle.q4_store.specs.Looking.{AddsNone, OnlyReads, IsStill, IsNoChoice, LoadFails, IsDraft, draft_length}
 use Rattle.q4_store.proofs.Drafts.{are_columns, new_side}
 
 pub settled_found : (old new : Told) (side : Side) (columns : List Column) (table : TableState) (generation end : ℕ) → AreColumns columns → IsStill old → AddsNone old new → IsCurrent side old.bytes → IsSide columns (on side old.bytes) table generation end
@@ -48,6 +50,17 @@ pub new_sound : (columns : List Column) (base header handed : List ℕ) (table :
 new_sound columns base header handed table are draft same is =
     let len : draft_length columns ≡ 21 + length handed = omega (arith, ap length same, ap length draft.base_is, length-append (base_bytes (new_table columns)) (0 ∷ [])) in
     (1 ∷ (header ++ base), subst (λ (t : TableState). IsSide columns (1 ∷ (header ++ base)) t 1 (21 + length handed)) (sym is) (subst (λ (n : ℕ). IsSide columns (1 ∷ (header ++ base)) (new_table columns) 1 n) len (new_side columns base header are draft)))
+
+-- one run that only reads after another
+pub reads_on : (a b c : Told) → AddsNone a b → b.writes ≡ a.writes → OnlyReads b c → OnlyReads a c
+reads_on a b c first none second = record {
+  rests = record {
+    bytes = second.rests.bytes ∙ first.bytes;
+    images = λ s left. first.images s (second.rests.images s left);
+    only = weaker a c (λ x. a.images x ⊎ b.images x) a.images (then_only a b c a.images b.images first.only second.rests.only) (λ x either. ⊎_elim (λ was. was) (first.images x) either);
+  };
+  writes = second.writes ∙ none;
+}
 
 -- after calls that changed nothing that is read
 pub ok_still : {T E : Type 0} (r : Result T E) (honest later : Bool) (P : Sides → T → Type 0) (now bytes : Sides) → later ≡ honest → (IsTrue honest → now ≡ bytes) → IfOk r (λ x. IsTrue later → P now x) → IfOk r (λ x. IsTrue honest → P bytes x)

@@ -18,6 +18,13 @@ pub record Is (images : Sides → Type 0) (side : Side) (kind : List ℕ → Typ
   pub same : on (other side) c ≡ on (other side) from
   pub here : kind (on side c)
 
+-- what is read of a side after a batch, a sync, a byte, and a sync
+pub landed : (side : Side) (old one two three four : Sides) (end at : ℕ) (batch gate : List ℕ) → one ≡ put side (written (on side old) end batch) old → two ≡ one → three ≡ put side (written (on side two) at gate) two → four ≡ three
+    → on side four ≡ written (written (on side old) end batch) at gate
+landed side old one two three four end at batch gate first same second last =
+    ap (on side) last ∙ ap (on side) second ∙ on_put side (written (on side two) at gate) two
+    ∙ ap (λ (l : List ℕ). written l at gate) (ap (on side) same ∙ ap (on side) first ∙ on_put side (written (on side old) end batch) old)
+
 module _ (old : Told) (side : Side) (end : ℕ) (front batch : List ℕ) (e : EndsBehind old side front) (end_is : end ≡ length front + 1) where
   abbrev pub most : ℕ
   most = grown old side end batch

@@ -1,5 +1,5 @@
 -- A store that was opened.
-use Rattle.std.proofs.Common.{◌≡◌, ℕ, ◌*◌, ◌≤◌, true, List, [], ◌∷◌, length, IsTrue, ap, arith, length-append}
+use Rattle.std.proofs.Common.{◌≡◌, ℕ, ◌*◌, ◌^◌, ◌≤◌, true, List, [], ◌∷◌, length, IsTrue, sym, ap, subst, arith, length-append}
 use Rattle.q4_value.specs.declared.column.Column.{Column}
 use Rattle.q4_value.specs.Names.{AreColumns}
 use Rattle.q4_table.specs.TableState.{TableState}
@@ -19,6 +19,13 @@ end_within columns bytes table generation end side =
     let p = parted columns bytes table generation end side in
     let size = ap length p.is in
     (omega (arith, p.end), omega (arith, p.end, size, length-append p.front (p.gate ∷ p.tail)))
+
+-- its generation is at least 1, and within its limit
+pub generation_within : (columns : List Column) (bytes : List ℕ) (table : TableState) (generation end : ℕ) → IsSide columns bytes table generation end → (1 ≤ generation) × (generation ≤ 2 ^ 62)
+generation_within columns bytes table generation end side =
+    let whole = side.stands in
+    let begins = whole.reaches.begins in
+    (subst (λ (n : ℕ). 1 ≤ n) (sym whole.generation_is) begins.header.positive, subst (λ (n : ℕ). n ≤ 2 ^ 62) (sym whole.generation_is) begins.generation)
 
 module _ {D : Type 0} (told : D → Told) (store : Stored D) (columns : List Column) (bytes : List ℕ) (table : TableState) (side : IsSide columns bytes table store.generation store.end)
     (settled : IsTrue (told store.disk).honest → IsSettled (told store.disk) store.side table store.generation store.end) (none : store.records ≡ []) (rows : store.rows ≡ length table.rows) where

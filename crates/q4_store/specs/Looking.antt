@@ -1,5 +1,5 @@
 -- What the steps of opening find: a look at both sides, the choice of one, its table, or a new one.
-use Rattle.std.specs.Prelude.{◌≡◌, ◌<◌, ◌+◌, ◌++◌, ◌↔◌, ℕ, Bool, true, IsTrue, List, [], ◌∷◌, length, codes}
+use Rattle.std.specs.Prelude.{◌≡◌, ◌<◌, ◌+◌, ◌++◌, ◌↔◌, ◌⊎◌, ℕ, Bool, true, IsTrue, List, [], ◌∷◌, length, codes}
 use Rattle.std.specs.Int.{w64, to_be_bytes}
 use Rattle.q4_value.specs.declared.column.Column.{Column}
 use Rattle.q4_table.specs.TableState.{new_table}
@@ -27,6 +27,15 @@ pub record AddsNone (old new : Told) : Type 0 where
   pub bytes : new.bytes ≡ old.bytes
   pub images : Within new.images old.images
   pub only : LeavesOnly old new old.images
+
+-- And nothing was written.
+pub record OnlyReads (old new : Told) : Type 0 where
+  pub rests : AddsNone old new
+  pub writes : new.writes ≡ old.writes
+
+-- one of them is open
+abbrev pub HasOpen : Sides → Type 0
+HasOpen sides = IsOpen sides.a ⊎ IsOpen sides.b
 
 -- a crash now leaves what is read
 abbrev pub IsStill : Told → Type 0

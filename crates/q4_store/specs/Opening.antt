@@ -1,4 +1,4 @@
--- Why opening finds nothing.
+-- Which side opening takes, and why it finds nothing.
 use Rattle.std.specs.Prelude.{◌≡◌, ◌≤◌, ◌⊎◌, ℕ, List}
 use Rattle.q4_value.specs.declared.column.Column.{Column}
 use Rattle.q4_record.specs.declared.side.SideFault.{SideFault}
@@ -13,6 +13,10 @@ use Rattle.q4_disk.specs.Calls.{bump}
 use Rattle.q4_store.specs.declared.fault.OpenFault.{OpenFault}
 use Rattle.q4_store.specs.declared.fault.OpenFault.TheVariants as fault
 use Rattle.q4_store.specs.Reading.{HasMagic, IsCurrent}
+
+-- The side that a store of these two sides has: the one that counts, or side A where neither is open.
+abbrev pub IsChosen : Sides → Side → Type 0
+IsChosen sides side = IsCurrent side sides ⊎ ((IsOpen sides.a → ⊥) × (IsOpen sides.b → ⊥) × (side ≡ A))
 
 -- open, with another magic
 pub record LacksMagic (bytes : List ℕ) : Type 0 where

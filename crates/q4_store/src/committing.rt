@@ -1,6 +1,6 @@
-ghost use Rattle.std.specs.Prelude.{◌≡◌, ◌+◌, ◌≤◌, ℕ, List, IsTrue, OnOk, length};
+ghost use Rattle.std.specs.Prelude.{◌≡◌, ◌+◌, ◌-◌, ◌≤◌, ℕ, List, [], ◌∷◌, IsTrue, OnOk, length};
 ghost use Rattle.q4_disk.specs.Told.{Sides, Told};
-ghost use Rattle.q4_disk.specs.Images.{on, size, Within};
+ghost use Rattle.q4_disk.specs.Images.{on, size, written, Within};
 ghost use Rattle.q4_disk.specs.Time.{LeavesOnly, OtherStays};
 ghost use Rattle.q4_disk.specs.Calls.{CountsFault};
 ghost use Rattle.q4_store.specs.Commit.{EndsBehind, IsOpenBehind, MayHaveBatch, grown};
@@ -25,6 +25,7 @@ pub(crate) fn commit_batch<D: Disk>(
     // After success it is open in each.
     ensures done { OnOk result ((front : List ℕ) → IsTrue (D.told disk.old).honest → EndsBehind (D.told disk.old) side front → end ≡ length front + 1
         → IsOpenBehind front batch.now (grown (D.told disk.old) side end batch.now) (on side (D.told disk.new).bytes)) }
+    ensures bytes { OnOk result (IsTrue (D.told disk.old).honest → on side (D.told disk.new).bytes ≡ written (written (on side (D.told disk.old).bytes) end batch.now) (end - 1) (1 ∷ [])) }
     ensures only { OnOk result (IsTrue (D.told disk.old).honest → Within (D.told disk.new).images (λ c. on side c ≡ on side (D.told disk.new).bytes)) }
     ensures long { OnOk result (IsTrue (D.told disk.old).honest → end + length batch.now ≤ size side (D.told disk.new).bytes) }
     ensures other { IsTrue (D.told disk.old).honest → OtherStays side (D.told disk.old) (D.told disk.new) }

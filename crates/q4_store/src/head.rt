@@ -28,6 +28,7 @@ pub(crate) fn read_head<D: Disk>(disk: &mut D, side: Side) -> Result<Head, DiskF
     ensures honest { (D.told disk.new).honest ≡ (D.told disk.old).honest }
     ensures faults { CountsFault result (D.told disk.old).faults (D.told disk.new).faults }
     ensures rests { IsTrue (D.told disk.old).honest → AddsNone (D.told disk.old) (D.told disk.new) }
+    ensures writes { (D.told disk.new).writes ≡ (D.told disk.old).writes }
     ensures head { IfOk result (λ head. IsTrue (D.told disk.old).honest → IsHead (on side (D.told disk.old).bytes) head) }
 {
     let mut bytes = [0; HEAD_SIZE];

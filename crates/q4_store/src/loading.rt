@@ -37,6 +37,7 @@ pub(crate) fn load<D: Disk>(
     ensures calm { OnOk result ((D.told disk.new).faults ≡ (D.told disk.old).faults) }
     ensures faults { IfErr result (λ fault. CountsOpen fault (D.told disk.old).faults (D.told disk.new).faults) }
     ensures rests { IsTrue (D.told disk.old).honest → AddsNone (D.told disk.old) (D.told disk.new) }
+    ensures writes { (D.told disk.new).writes ≡ (D.told disk.old).writes }
     ensures sound { IfOk result (λ loaded. (bytes : List ℕ) × IsSide columns.now bytes loaded.table loaded.generation loaded.end) }
     ensures loaded { IfOk result (λ loaded. IsTrue (D.told disk.old).honest → IsSide columns.now (on side (D.told disk.old).bytes) loaded.table loaded.generation loaded.end) }
     ensures fails { IfErr result (λ fault. IsTrue (D.told disk.old).honest → IsOpen (on side (D.told disk.old).bytes) → LoadFails columns.now (on side (D.told disk.old).bytes) side fault) }
@@ -65,6 +66,7 @@ fn load_into<D: Disk>(
     ensures calm { OnOk result ((D.told disk.new).faults ≡ (D.told disk.old).faults) }
     ensures faults { IfErr result (λ fault. CountsOpen fault (D.told disk.old).faults (D.told disk.new).faults) }
     ensures rests { IsTrue (D.told disk.old).honest → AddsNone (D.told disk.old) (D.told disk.new) }
+    ensures writes { (D.told disk.new).writes ≡ (D.told disk.old).writes }
     ensures sound { IfOk result (λ loaded. (bytes : List ℕ) × IsSide columns.now bytes loaded.table loaded.generation loaded.end) }
     ensures loaded { IfOk result (λ loaded. IsTrue (D.told disk.old).honest → IsSide columns.now (on side (D.told disk.old).bytes) loaded.table loaded.generation loaded.end) }
     ensures fails { IfErr result (λ fault. IsTrue (D.told disk.old).honest → IsOpen (on side (D.told disk.old).bytes) → LoadFails columns.now (on side (D.told disk.old).bytes) side fault) }

@@ -8,8 +8,8 @@ ghost use Rattle.q4_disk.specs.Calls.{CountsFault};
 ghost use Rattle.q4_store.specs.Reading.{Reads, ReadsAs};
 ghost use Rattle.q4_store.specs.Parts.{IsShut};
 ghost use Rattle.q4_store.specs.Store.{IsSettled};
-ghost use Rattle.q4_store.specs.Opening.{CountsOpen, OpenFails};
-ghost use Rattle.q4_store.specs.Looking.{AddsNone, IsStill, IsHead, IsChoice};
+ghost use Rattle.q4_store.specs.Opening.{CountsOpen, IsChosen, OpenFails};
+ghost use Rattle.q4_store.specs.Looking.{AddsNone, OnlyReads, HasOpen, IsStill, IsHead, IsChoice};
 
 use crate::creating::{create, make_draft};
 use crate::fault::OpenFault;
@@ -47,8 +47,11 @@ pub(crate) fn find<D: Disk>(
     ensures faults { IfErr result (λ fault. CountsOpen fault (D.told disk.old).faults (D.told disk.new).faults) }
     // At each moment inside it each image reads as one that there was.
     ensures any_moment { IsTrue (D.told disk.old).honest → LeavesOnly (D.told disk.old) (D.told disk.new) (ReadsAs columns.now (D.told disk.old).images) }
+    // Where a side is open it only reads.
+    ensures rests { IsTrue (D.told disk.old).honest → HasOpen (D.told disk.old).bytes → OnlyReads (D.told disk.old) (D.told disk.new) }
     ensures sound { IfOk result (λ found. (bytes : List ℕ) × IsSide columns.now bytes found.table found.generation found.end) }
     ensures reads { IfOk result (λ found. IsTrue (D.told disk.old).honest → Reads columns.now (D.told disk.old).bytes found.table found.generation) }
+    ensures side { IfOk result (λ found. IsTrue (D.told disk.old).honest → IsChosen (D.told disk.old).bytes found.side) }
     ensures settled { IfOk result (λ found. IsTrue (D.told disk.old).honest → IsSettled (D.told disk.new) found.side found.table found.generation found.end) }
     ensures known { IfOk result (λ found. IsTrue (D.told disk.old).honest → found.known ≡ true → Within (D.told disk.new).images (λ c. IsShut (on (other found.side) c))) }
     ensures fails { IfErr result (λ fault. IsTrue (D.told disk.old).honest → OpenFails columns.now (D.told disk.old).bytes fault) }
@@ -75,8 +78,10 @@ fn find_by<D: Disk>(
     ensures calm { OnOk result ((D.told disk.new).faults ≡ (D.told disk.old).faults) }
     ensures faults { IfErr result (λ fault. CountsOpen fault (D.told disk.old).faults (D.told disk.new).faults) }
     ensures any_moment { IsTrue (D.told disk.old).honest → LeavesOnly (D.told disk.old) (D.told disk.new) (ReadsAs columns.now (D.told disk.old).images) }
+    ensures rests { IsTrue (D.told disk.old).honest → HasOpen (D.told disk.old).bytes → OnlyReads (D.told disk.old) (D.told disk.new) }
     ensures sound { IfOk result (λ found. (bytes : List ℕ) × IsSide columns.now bytes found.table found.generation found.end) }
     ensures reads { IfOk result (λ found. IsTrue (D.told disk.old).honest → Reads columns.now (D.told disk.old).bytes found.table found.generation) }
+    ensures side { IfOk result (λ found. IsTrue (D.told disk.old).honest → IsChosen (D.told disk.old).bytes found.side) }
     ensures settled { IfOk result (λ found. IsTrue (D.told disk.old).honest → IsSettled (D.told disk.new) found.side found.table found.generation found.end) }
     ensures known { IfOk result (λ found. IsTrue (D.told disk.old).honest → found.known ≡ true → Within (D.told disk.new).images (λ c. IsShut (on (other found.side) c))) }
     ensures fails { IfErr result (λ fault. IsTrue (D.told disk.old).honest → OpenFails columns.now (D.told disk.old).bytes fault) }
@@ -93,6 +98,7 @@ fn look<D: Disk>(disk: &mut D) -> Result<(Head, Head), DiskFailed>
     ensures honest { (D.told disk.new).honest ≡ (D.told disk.old).honest }
     ensures faults { CountsFault result (D.told disk.old).faults (D.told disk.new).faults }
     ensures rests { IsTrue (D.told disk.old).honest → AddsNone (D.told disk.old) (D.told disk.new) }
+    ensures writes { (D.told disk.new).writes ≡ (D.told disk.old).writes }
     ensures still { OnOk result (IsTrue (D.told disk.old).honest → IsStill (D.told disk.new)) }
     ensures heads { IfOk result (λ heads. IsTrue (D.told disk.old).honest → IsHead (D.told disk.old).bytes.a heads.0 × IsHead (D.told disk.old).bytes.b heads.1) }
 {
@@ -106,6 +112,7 @@ fn sync_both<D: Disk>(disk: &mut D) -> Result<(), DiskFailed>
     ensures honest { (D.told disk.new).honest ≡ (D.told disk.old).honest }
     ensures faults { CountsFault result (D.told disk.old).faults (D.told disk.new).faults }
     ensures rests { IsTrue (D.told disk.old).honest → AddsNone (D.told disk.old) (D.told disk.new) }
+    ensures writes { (D.told disk.new).writes ≡ (D.told disk.old).writes }
     ensures still { OnOk result (IsTrue (D.told disk.old).honest → IsStill (D.told disk.new)) }
 {
     disk.sync(Side::A)?;
@@ -128,8 +135,11 @@ fn find_current<D: Disk>(
     ensures calm { OnOk result ((D.told disk.new).faults ≡ (D.told disk.old).faults) }
     ensures faults { IfErr result (λ fault. CountsOpen fault (D.told disk.old).faults (D.told disk.new).faults) }
     ensures any_moment { IsTrue (D.told disk.old).honest → LeavesOnly (D.told disk.old) (D.told disk.new) (ReadsAs columns.now (D.told disk.old).images) }
+    ensures rests { IsTrue (D.told disk.old).honest → AddsNone (D.told disk.old) (D.told disk.new) }
+    ensures writes { (D.told disk.new).writes ≡ (D.told disk.old).writes }
     ensures sound { IfOk result (λ found. (bytes : List ℕ) × IsSide columns.now bytes found.table found.generation found.end) }
     ensures reads { IfOk result (λ found. IsTrue (D.told disk.old).honest → Reads columns.now (D.told disk.old).bytes found.table found.generation) }
+    ensures side { IfOk result (λ found. IsTrue (D.told disk.old).honest → IsChosen (D.told disk.old).bytes found.side) }
     ensures settled { IfOk result (λ found. IsTrue (D.told disk.old).honest → IsSettled (D.told disk.new) found.side found.table found.generation found.end) }
     ensures known { IfOk result (λ found. IsTrue (D.told disk.old).honest → found.known ≡ true → Within (D.told disk.new).images (λ c. IsShut (on (other found.side) c))) }
     ensures fails { IfErr result (λ fault. IsTrue (D.told disk.old).honest → OpenFails columns.now (D.told disk.old).bytes fault) }
@@ -163,6 +173,7 @@ fn make_new<D: Disk>(
     ensures any_moment { IsTrue (D.told disk.old).honest → LeavesOnly (D.told disk.old) (D.told disk.new) (ReadsAs columns.now (D.told disk.old).images) }
     ensures sound { IfOk result (λ found. (bytes : List ℕ) × IsSide columns.now bytes found.table found.generation found.end) }
     ensures reads { IfOk result (λ found. IsTrue (D.told disk.old).honest → Reads columns.now (D.told disk.old).bytes found.table found.generation) }
+    ensures side { IfOk result (λ found. IsTrue (D.told disk.old).honest → IsChosen (D.told disk.old).bytes found.side) }
     ensures settled { IfOk result (λ found. IsTrue (D.told disk.old).honest → IsSettled (D.told disk.new) found.side found.table found.generation found.end) }
     ensures known { IfOk result (λ found. IsTrue (D.told disk.old).honest → found.known ≡ true → Within (D.told disk.new).images (λ c. IsShut (on (other found.side) c))) }
     ensures fails { IfErr result (λ fault. IsTrue (D.told disk.old).honest → OpenFails columns.now (D.told disk.old).bytes fault) }

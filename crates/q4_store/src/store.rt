@@ -1,12 +1,15 @@
-ghost use Rattle.std.specs.Prelude.{◌≡◌, ◌+◌, ◌-◌, ◌*◌, ◌≤◌, ◌<◌, ◌^◌, ◌++◌, ◌↔◌, ℕ, Bool, true, false, None, List, [], ◌∷◌, All, IsTrue, IsOk, IsErr, IfOk, IfErr, OnOk, OnErr, length, vec_capacity};
+ghost use Rattle.std.specs.Prelude.{◌≡◌, ◌≢◌, ◌+◌, ◌-◌, ◌*◌, ◌≤◌, ◌<◌, ◌^◌, ◌++◌, ◌↔◌, ℕ, Bool, true, false, None, List, [], ◌∷◌, All, IsTrue, IsOk, IsErr, IfOk, IfErr, OnOk, OnErr, length, vec_capacity};
 ghost use Rattle.q4_value.specs.Names.{AreColumns};
 ghost use Rattle.q4_value.specs.Row.{IsValue};
 ghost use Rattle.q4_record.specs.Record.{record_bytes};
 ghost use Rattle.q4_disk.specs.Told.{Sides, Told};
+ghost use Rattle.q4_disk.specs.Images.{on, written};
 ghost use Rattle.q4_disk.specs.Time.{LeavesOnly};
 ghost use Rattle.q4_disk.specs.Calls.{bump};
 ghost use Rattle.q4_store.specs.Reading.{Reads, ReadsAs};
-ghost use Rattle.q4_store.specs.Opening.{OpenFails, CountsOpen};
+ghost use Rattle.q4_store.specs.Looking.{OnlyReads, HasOpen};
+ghost use Rattle.q4_store.specs.Opening.{IsChosen, OpenFails, CountsOpen};
+ghost use Rattle.q4_store.specs.Commit.{sealed};
 ghost use Rattle.q4_store.specs.Content.{Content, row_added, row_ended, with_change, all_committed, IsPrefix};
 ghost use Rattle.q4_store.specs.Store.{StandsFor, TakesRow, HasRow, IsOver, IsRefused, length_of, cost_of, pending_length, batch_size};
 
@@ -67,13 +70,20 @@ impl<D: Disk> Store<D> {
         requires { AreColumns def.now.columns }
         // What is given is what the two sides read as.
         ensures reads { IfOk result (λ opened. IsTrue (D.told disk).honest → Reads def.now.columns (D.told disk).bytes opened.1 opened.0.generation) }
+        // Its side is the one that counts, or side A where neither is open.
+        ensures side { IfOk result (λ opened. IsTrue (D.told disk).honest → IsChosen (D.told disk).bytes opened.0.side) }
         ensures stands { IfOk result (λ opened. StandsFor D.told opened.0 (record { committed = opened.1; pending = [] })) }
         ensures fresh { IfOk result (λ opened. (opened.0.failed ≡ false) × (opened.0.records ≡ []) × (opened.1.columns ≡ def.now.columns)) }
+        // Whatever the disk tells.
+        ensures generation { IfOk result (λ opened. (1 ≤ opened.0.generation) × (opened.0.generation ≤ 2 ^ 62)) }
         // At each moment inside it each image reads as one that there was.
         ensures any_moment { IfOk result (λ opened. IsTrue (D.told disk).honest
             → LeavesOnly (D.told disk) (D.told opened.0.disk) (ReadsAs def.now.columns (D.told disk).images)) }
         ensures any_moment_err { IfErr result (λ refused. IsTrue (D.told disk).honest
             → LeavesOnly (D.told disk) (D.told refused.1) (ReadsAs def.now.columns (D.told disk).images)) }
+        // Where a side is open it writes nothing, and adds no image.
+        ensures rests { IfOk result (λ opened. IsTrue (D.told disk).honest → HasOpen (D.told disk).bytes → OnlyReads (D.told disk) (D.told opened.0.disk)) }
+        ensures rests_err { IfErr result (λ refused. IsTrue (D.told disk).honest → HasOpen (D.told disk).bytes → OnlyReads (D.told disk) (D.told refused.1)) }
         // Why they read as nothing. The disk's count rises where it failed, and only there.
         ensures fails { IfErr result (λ refused. IsTrue (D.told disk).honest → OpenFails def.now.columns (D.told disk).bytes refused.0) }
         ensures calm { IfOk result (λ opened. (D.told opened.0.disk).faults ≡ (D.told disk).faults) }
@@ -244,6 +254,9 @@ impl<D: Disk> Store<D> {
         ensures done { OnOk result ((content : Content) → StandsFor D.told self.old content → StandsFor D.told self.new (all_committed content)) }
         ensures open { OnErr result ((content : Content) → StandsFor D.told self.old content → StandsFor D.told self.new content) }
         ensures committed { OnOk result (self.new ≡ record self.old { disk = self.new.disk; end = length_of self.old; records = []; reserved = self.new.reserved }) }
+        // What the side reads as then: the batch stands from the old closing gate on, which is open, and it ends with a closed one.
+        ensures bytes { OnOk result (IsTrue (D.told self.old.disk).honest → self.old.records ≢ []
+            → on self.old.side (D.told self.new.disk).bytes ≡ written (written (on self.old.side (D.told self.old.disk).bytes) self.old.end (sealed self.old.records)) (self.old.end - 1) (1 ∷ [])) }
         ensures failed { OnErr result (self.new ≡ record self.old { disk = self.new.disk; failed = true }) }
         ensures length { length_of self.new ≡ length_of self.old }
         ensures honest { (D.told self.new.disk).honest ≡ (D.told self.old.disk).honest }

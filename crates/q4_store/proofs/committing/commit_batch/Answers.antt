@@ -1,9 +1,9 @@
-use Rattle.std.proofs.Common.{◌≡◌, ℕ, ◌+◌, List, length, IsTrue, sym, ◌∙◌, ap, arith}
+use Rattle.std.proofs.Common.{◌≡◌, ℕ, ◌+◌, ◌-◌, List, [], ◌∷◌, length, IsTrue, sym, ◌∙◌, ap, arith}
 use Rattle.q4_disk.specs.Images.{on, size}
 use Rattle.q4_disk.proofs.Moments.{Along, other_stepped, other_synced, other_then}
 use Rattle.q4_store.specs.Commit.{EndsBehind, MayHaveBatch, grown}
 use Rattle.q4_store.proofs.Filling.{as_long}
-use Rattle.q4_store.proofs.Landing.{Is, Behind, Staged, Gated, Done, started, write_behind, read_behind, sync_fails, sync_behind, write_gate, read_gate, gate_sync, is_done}
+use Rattle.q4_store.proofs.Landing.{Is, Behind, Staged, Gated, Done, started, write_behind, read_behind, sync_fails, sync_behind, write_gate, read_gate, gate_sync, is_done, landed}
 use Rattle.q4_store.proofs.committing.commit_batch.Given as given
 use Rattle.q4_store.proofs.committing.commit_batch.Goals as goal
 use Rattle.q4_store.proofs.committing.commit_batch.Goals.{After-write, In_ok-write, After-sync, In_ok-sync, After-write-2, In_ok-write-2, After-sync-2}
@@ -86,3 +86,10 @@ returns-clause-other g c h =
     let h2 = c.sync.ensures.call.counted.honest ∙ h1 in
     let h3 = c.write-2.ensures.call.counted.honest ∙ h2 in
     other_then (other_then (other_then (other_stepped (c.write.ensures.write h)) (other_synced (c.sync.ensures.sync h1))) (other_stepped (c.write-2.ensures.write h2))) (other_synced (c.sync-2.ensures.sync h3))
+
+pub returns-clause-bytes : goal.returns-clause-bytes
+returns-clause-bytes g c h =
+    let h1 = c.write.ensures.call.counted.honest ∙ h in
+    let h2 = c.sync.ensures.call.counted.honest ∙ h1 in
+    let h3 = c.write-2.ensures.call.counted.honest ∙ h2 in
+    landed c.args.side _ _ _ _ _ c.args.end (c.args.end - 1) c.args.batch.now (1 ∷ []) (c.in_ok-write.ensures.write h).done (c.in_ok-sync.ensures.sync h1).bytes (c.in_ok-write-2.ensures.write h2).done (c.in_ok-sync-2.ensures.sync h3).bytes

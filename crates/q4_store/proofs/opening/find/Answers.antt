@@ -1,7 +1,13 @@
+use Rattle.std.proofs.Common.{◌≡◌, true, sym, ◌∙◌, subst}
 use Rattle.q4_disk.specs.Told.{Sides}
-use Rattle.q4_store.specs.Reading.{Reads}
-use Rattle.q4_store.specs.Opening.{OpenFails}
-use Rattle.q4_store.proofs.Finding.{ok_still, err_still}
+use Rattle.q4_disk.specs.Images.{on, other, Within}
+use Rattle.q4_disk.proofs.Moments.{weaker}
+use Rattle.q4_store.specs.Reading.{Reads, ReadsAs}
+use Rattle.q4_store.specs.Parts.{IsShut}
+use Rattle.q4_store.specs.Looking.{HasOpen}
+use Rattle.q4_store.specs.Opening.{IsChosen, OpenFails}
+use Rattle.q4_store.proofs.Finding.{ok_still, err_still, reads_on}
+use Rattle.q4_store.proofs.Quiet.{as_itself, reads_then}
 use Rattle.q4_store.proofs.opening.find.Goals as goal
 
 pub returns-clause-reads : goal.returns-clause-reads
@@ -11,3 +17,24 @@ returns-clause-reads g c =
 pub returns-clause-fails : goal.returns-clause-fails
 returns-clause-fails g c =
     err_still c.find_by.result _ _ (λ (s : Sides) why. OpenFails c.args.columns.now s why) _ _ c.look.ensures.honest (λ h. (c.look.ensures.rests h).bytes) c.find_by.ensures.fails
+
+pub returns-clause-side : goal.returns-clause-side
+returns-clause-side g c =
+    ok_still c.find_by.result _ _ (λ (s : Sides) found. IsChosen s found.side) _ _ c.look.ensures.honest (λ h. (c.look.ensures.rests h).bytes) c.find_by.ensures.side
+
+pub returns-clause-any_moment : goal.returns-clause-any_moment
+returns-clause-any_moment g c h =
+    let columns = c.args.columns.now in
+    let images = (g.D.Disk.told c.args.disk.now).images in
+    let rests = c.look.ensures.rests h in
+    reads_then columns (g.D.Disk.told c.args.disk.now) _ _ (weaker _ _ images (ReadsAs columns images) rests.only (as_itself columns images)) (λ s left. as_itself columns images s (rests.images s left)) (c.find_by.ensures.any_moment (c.look.ensures.honest ∙ h))
+
+pub returns-clause-rests : goal.returns-clause-rests
+returns-clause-rests g c h some =
+    let rests = c.look.ensures.rests h in
+    reads_on (g.D.Disk.told c.args.disk.now) _ _ rests c.look.ensures.writes (c.find_by.ensures.rests (c.look.ensures.honest ∙ h) (subst HasOpen (sym rests.bytes) some))
+
+pub returns-clause-known : goal.returns-clause-known
+returns-clause-known g c =
+    let images = (g.D.Disk.told c.find_by.new.disk).images in
+    ok_still c.find_by.result _ _ (λ (s : Sides) found. found.known ≡ true → Within images (λ d. IsShut (on (other found.side) d))) _ _ c.look.ensures.honest (λ h. (c.look.ensures.rests h).bytes) c.find_by.ensures.known

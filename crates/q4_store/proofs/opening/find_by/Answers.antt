@@ -1,4 +1,5 @@
 use Rattle.std.proofs.Common.{subst}
+use Rattle.std.proofs.Math.Logic.{⊎_elim}
 use Rattle.q4_store.specs.Looking.{IsChoice}
 use Rattle.q4_store.proofs.Finding.{counts_none, unclear_fails}
 use Rattle.q4_store.proofs.opening.find_by.Goals as goal
@@ -18,3 +19,9 @@ returns-in-Err-clause-faults g c = counts_none c.in-Err.fault _ c.in-Err.ensures
 
 pub returns-in-Err-clause-fails : goal.returns-in-Err-clause-fails
 returns-in-Err-clause-fails g c h = unclear_fails c.args.columns.now _ c.in-Err.fault (c.in-Err.ensures.unclear _ (c.requires.head_a h) (c.requires.head_b h))
+
+pub returns-in-Ok-Neither-clause-rests : goal.returns-in-Ok-Neither-clause-rests
+returns-in-Ok-Neither-clause-rests g c h some =
+    let bytes = (g.D.Disk.told c.args.disk.now).bytes in
+    let neither = subst (IsChoice bytes) c.in-Ok-Neither.field-0-is (c.in-Ok-Neither.ensures.choice bytes (c.requires.head_a h) (c.requires.head_b h)) in
+    absurd (⊎_elim neither.0 neither.1 some)

@@ -1,3 +1,4 @@
+use Rattle.std.proofs.Common.{inl}
 use Rattle.q4_store.proofs.Finding.{settled_found, load_fails}
 use Rattle.q4_store.proofs.opening.find_current.Goals as goal
 
@@ -9,3 +10,6 @@ pub returns-in-Err-clause-fails : goal.returns-in-Err-clause-fails
 returns-in-Err-clause-fails g c h =
     let chosen = c.requires.chosen h in
     load_fails c.args.columns.now _ c.args.side c.in-Err.fault chosen.0 chosen.1 (c.in-Err.ensures.fails h chosen.0.is_open)
+
+pub returns-in-Ok-clause-side : goal.returns-in-Ok-clause-side
+returns-in-Ok-clause-side g c h = inl (c.requires.chosen h).0

@@ -1,7 +1,7 @@
 use Rattle.std.proofs.Common.{refl, sym, ◌∙◌}
 use Rattle.q4_record.proofs.Leading.{sound_side}
 use Rattle.q4_store.proofs.Drafts.{are_columns}
-use Rattle.q4_store.proofs.Opened.{opened_held, opened_stands}
+use Rattle.q4_store.proofs.Opened.{generation_within, opened_held, opened_stands}
 use Rattle.q4_store.proofs.store.Store.open.Goals as goal
 
 pub invariant_of-store : goal.invariant_of-store
@@ -18,3 +18,8 @@ pub returns-clause-fresh : goal.returns-clause-fresh
 returns-clause-fresh g c =
     let found = c.in-Ok.ensures in
     (refl, c.in-Ok-hold.ensures.records, (sound_side _ found.sound.0 c.in-Ok.found.table c.in-Ok.found.generation c.in-Ok.found.end (are_columns _ c.requires) found.sound.1).columns_are)
+
+pub returns-clause-generation : goal.returns-clause-generation
+returns-clause-generation g c =
+    let found = c.in-Ok.ensures in
+    generation_within c.args.def.now.columns found.sound.0 c.in-Ok.found.table c.in-Ok.found.generation c.in-Ok.found.end found.sound.1
