@@ -225,6 +225,29 @@ fn full_history(rt: HostRuntime) {
     assert_eq!(rt; done.status, 0);
 }
 
+const FULL: &[u8] =
+    b"ok\t249999\nok\t250000\nerr\t41\ttable full\nok\t1\nok\nok\t250001\nerr\t41\ttable full\nbye\n";
+
+// A table takes 250,000 rows and refuses the next one, until a row was ended.
+#[test]
+fn full_table(rt: HostRuntime) {
+    let alloc = rt.alloc();
+    let mut input = Vec::new(alloc);
+    for _ in 0..250_001 {
+        append(&rt, &mut input, b"insert\tjobs\t1\ta\n");
+    }
+    append(
+        &rt,
+        &mut input,
+        b"wait\tjobs\nend\ninsert\tjobs\t2\tb\ninsert\tjobs\t3\tc\nquit\n",
+    );
+    let mut source = at_once(&rt, alloc, &input);
+    let mut definitions = at_once(&rt, alloc, b"");
+    let done = run_tool(&rt, alloc, &["run"], &mut source, &mut definitions, &[]);
+    assert!(rt; done.sink.bytes().ends_with(FULL));
+    assert_eq!(rt; done.status, 0);
+}
+
 // The reads of at most 20 bytes and the writes with these numbers fail.
 const FAULTY: [(&[u8], &[u64], &[u64], &[u8], u8); 5] = [
     (
