@@ -18,14 +18,14 @@ use Rattle.q4_store.specs.Store.{Stored, StandsFor, IsSettled, pending_length, l
 use Rattle.q4_store.proofs.Lifting.{reads_current, front, p, ends, may_read, settled_then}
 
 -- a record has bytes
-some_bytes : (head : Head) (more : List ℕ) → head_bytes head ++ more ≢ []
+pub some_bytes : (head : Head) (more : List ℕ) → head_bytes head ++ more ≢ []
 some_bytes (Insert number None) more = λ none. absurd (cc none)
 some_bytes (Insert number (Some origin)) more = λ none. absurd (cc none)
 some_bytes (End number) more = λ none. absurd (cc none)
 some_bytes (Mark source number) more = λ none. absurd (cc none)
 some_bytes (Next number) more = λ none. absurd (cc none)
 
-no_change : (changes : List Record) → records_bytes changes ≡ [] → changes ≡ []
+pub no_change : (changes : List Record) → records_bytes changes ≡ [] → changes ≡ []
 no_change [] none = refl
 no_change (r ∷ rs) none = absurd (some_bytes r.head (row_bytes r.row ++ records_bytes rs) (sym (append_assoc (head_bytes r.head) (row_bytes r.row) (records_bytes rs)) ∙ none))
 

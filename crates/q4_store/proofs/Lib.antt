@@ -14,3 +14,5 @@ pub mod Drafts
 pub mod Finding
 pub mod Opened
 pub mod Apart
+pub mod Lengths
+pub mod Changes

@@ -2,6 +2,7 @@ pub mod Reading
 pub mod Parts
 pub mod Commit
 pub mod Content
+pub mod Lengths
 pub mod Store
 pub mod Waiting
 pub mod Opening

@@ -105,7 +105,7 @@ pub record TakesRow (content : Content) (number : ℕ) (row : List Value) (origi
 abbrev pub HasRow : Content → ℕ → Type 0
 HasRow content number = IsThere (table_of content).rows number
 
--- Why no record of this size is taken: the side is full, with its length and what is pending, or memory was wanted.
-abbrev pub IsRefused : {D : Type 0} → Stored D → ℕ → ℕ → AppendFault → Type 0
-IsRefused store size live (fault.FileFull length) = (length ≡ length_of store) × IsOver (length_of store) (cost_of store size) live
-IsRefused store size live fault.Memory = IsOver (length_of store) (cost_of store size) live → ⊥
+-- Why no record of this cost is taken: the side is full, with its length and what is pending, or memory was wanted.
+abbrev pub IsRefused : ℕ → ℕ → ℕ → AppendFault → Type 0
+IsRefused taken cost live (fault.FileFull length) = (length ≡ taken) × IsOver taken cost live
+IsRefused taken cost live fault.Memory = IsOver taken cost live → ⊥

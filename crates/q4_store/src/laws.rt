@@ -1,14 +1,22 @@
 //! What holds of two sides whatever a call does. These functions do nothing: their contracts are the laws.
 
-ghost use Rattle.std.specs.Prelude.{◌≡◌, ◌⊎◌, ℕ, List};
+ghost use Rattle.std.specs.Prelude.{◌≡◌, ◌⊎◌, ℕ, List, [], Option, length};
 ghost use Rattle.q4_value.specs.declared.column.Column.{Column as Header};
+ghost use Rattle.q4_value.specs.declared.row.Value.{Value as Field};
 ghost use Rattle.q4_value.specs.Names.{AreColumns};
+ghost use Rattle.q4_table.specs.declared.origin.Origin.{Origin as RowOrigin};
 ghost use Rattle.q4_table.specs.TableState.{TableState};
+ghost use Rattle.q4_table.specs.Rows.{without_row};
+ghost use Rattle.q4_table.specs.Adding.{add_row};
+ghost use Rattle.q4_record.specs.Record.{Record as Change, record_bytes, records_bytes};
 ghost use Rattle.q4_disk.specs.Told.{Sides};
 ghost use Rattle.q4_store.specs.declared.fault.OpenFault.{OpenFault as Fault};
 ghost use Rattle.q4_store.specs.declared.fault.OpenFault.TheVariants as fault;
 ghost use Rattle.q4_store.specs.Reading.{Reads};
 ghost use Rattle.q4_store.specs.Opening.{OpenFails};
+ghost use Rattle.q4_store.specs.Content.{Content, row_added, row_ended, table_of, with_change, all_committed, IsPrefix};
+ghost use Rattle.q4_store.specs.Lengths.{change_size, waiting_size, change_cost};
+ghost use Rattle.q4_store.specs.Store.{pending_length, batch_size};
 
 /// Laws of what opening gives of two sides.
 pub fn opening_laws()
@@ -17,4 +25,25 @@ pub fn opening_laws()
     // Where they read as a table there is no fault but that of the disk and want of memory.
     ensures apart { (columns : List Header) (sides : Sides) (table : TableState) (g : ℕ) (why : Fault) → AreColumns columns → Reads columns sides table g → OpenFails columns sides why
         → (why ≡ fault.Disk) ⊎ (why ≡ fault.Memory) }
+{}
+
+/// Laws of what a store stands for.
+pub fn content_laws()
+    // A row that was appended is added as the table adds it, and one that was ended is removed as the table removes it.
+    ensures added { (content : Content) (number : ℕ) (row : List Field) (origin : Option RowOrigin) → number ≡ (table_of content).next
+        → table_of (with_change content (row_added number row origin)) ≡ add_row (table_of content) row origin }
+    ensures ended { (content : Content) (number : ℕ)
+        → table_of (with_change content (row_ended number)) ≡ record (table_of content) { rows = without_row number (table_of content).rows } }
+    // A commit leaves the table.
+    ensures committed { (content : Content) → table_of (all_committed content) ≡ table_of content }
+    // Where nothing waits, what opening gives is all that is committed.
+    ensures nothing_waits { (content : Content) (generation : ℕ) (sides : Sides) → content.pending ≡ [] → IsPrefix content generation sides
+        → Reads content.committed.columns sides content.committed generation }
+{}
+
+/// Laws of how long changes make a side.
+pub fn length_laws()
+    ensures change { (change : Change) → length (record_bytes change) ≡ change_size change }
+    ensures waiting { (changes : List Change) → pending_length (records_bytes changes) ≡ waiting_size changes }
+    ensures cost { (changes : List Change) (size : ℕ) → batch_size (records_bytes changes) size ≡ change_cost changes size }
 {}

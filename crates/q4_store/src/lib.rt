@@ -15,7 +15,7 @@ mod spelling;
 mod store;
 
 pub use fault::{AppendFault, OpenFault};
-pub use laws::opening_laws;
+pub use laws::{content_laws, length_laws, opening_laws};
 pub use limit::room;
 pub use store::Store;
 

@@ -11,6 +11,7 @@ ghost use Rattle.q4_store.specs.Looking.{OnlyReads, HasOpen};
 ghost use Rattle.q4_store.specs.Opening.{IsChosen, OpenFails, CountsOpen};
 ghost use Rattle.q4_store.specs.Commit.{sealed};
 ghost use Rattle.q4_store.specs.Content.{Content, row_added, row_ended, with_change, all_committed, IsPrefix};
+ghost use Rattle.q4_store.specs.Lengths.{change_size, waiting_size, change_cost};
 ghost use Rattle.q4_store.specs.Store.{StandsFor, TakesRow, HasRow, IsOver, IsRefused, length_of, cost_of, pending_length, batch_size};
 
 use crate::batch::Batch;
@@ -140,14 +141,17 @@ fn hold(alloc: Global, rows: u32) -> Result<Memory, NoMemory>
 impl<D: Disk> Store<D> {
     /// The length of the side up to and with its closing gate, with what is pending.
     pub fn length(&self) -> u64
-        ensures { result ≡ length_of self.now }
+        ensures length { result ≡ length_of self.now }
+        // Told by the changes that wait.
+        ensures content { (content : Content) → StandsFor D.told self.now content → result ≡ self.now.end + waiting_size content.pending }
     {
         self.end + pending_size(&self.batch)
     }
 
     /// Whether changes wait for a commit.
     pub fn pending(&self) -> bool
-        ensures { IsTrue result ↔ (0 < length self.now.records) }
+        ensures records { IsTrue result ↔ (0 < length self.now.records) }
+        ensures content { (content : Content) → StandsFor D.told self.now content → IsTrue result ↔ (content.pending ≢ []) }
     {
         !self.batch.is_empty()
     }
@@ -195,9 +199,14 @@ impl<D: Disk> Store<D> {
     /// `live` is the number of rows that there are. A refusal leaves the store as it was.
     pub fn reserve(&mut self, size: u64, live: u32) -> Result<(), AppendFault>
         requires { size ≤ 2 ^ 32 }
-        ensures fault { IfErr result (IsRefused self.old size live) }
+        ensures fault { IfErr result (IsRefused (length_of self.old) (cost_of self.old size) live) }
         // There is room exactly where it is not refused for want of it.
         ensures room { OnOk result (IsOver (length_of self.old) (cost_of self.old size) live → ⊥) }
+        // Both told by the changes that wait.
+        ensures content_fault { (content : Content) → StandsFor D.told self.old content
+            → IfErr result (IsRefused (self.old.end + waiting_size content.pending) (change_cost content.pending size) live) }
+        ensures content_room { (content : Content) → StandsFor D.told self.old content
+            → OnOk result (IsOver (self.old.end + waiting_size content.pending) (change_cost content.pending size) live → ⊥) }
         ensures kept { OnErr result (self.new ≡ self.old) }
         ensures reserved { OnOk result (self.old.rows ≤ live → self.new ≡ record self.old { reserved = size }) }
         ensures same { self.new ≡ record self.old { reserved = self.new.reserved } }
@@ -223,6 +232,9 @@ impl<D: Disk> Store<D> {
             → StandsFor D.told self.new (with_change content (row_added number row.now origin)) }
         ensures change { self.new ≡ record self.old { records = self.old.records ++ record_bytes (row_added number row.now origin); rows = self.old.rows + 1; reserved = 0 } }
         ensures length { length_of self.new ≡ length_of self.old + cost_of self.old (length (record_bytes (row_added number row.now origin))) }
+        // Told by the changes that wait.
+        ensures longer { (content : Content) → StandsFor D.told self.old content
+            → length_of self.new ≡ length_of self.old + change_cost content.pending (change_size (row_added number row.now origin)) }
     {
         self.batch.put_row(number, row, origin);
         self.rows += 1;
@@ -236,6 +248,9 @@ impl<D: Disk> Store<D> {
             → StandsFor D.told self.new (with_change content (row_ended number)) }
         ensures change { self.new ≡ record self.old { records = self.old.records ++ record_bytes (row_ended number); rows = self.old.rows - 1 } }
         ensures length { length_of self.new ≡ length_of self.old + cost_of self.old 9 }
+        // Told by the changes that wait.
+        ensures longer { (content : Content) → StandsFor D.told self.old content
+            → length_of self.new ≡ length_of self.old + change_cost content.pending (change_size (row_ended number)) }
     {
         self.batch.put_end(number);
         self.rows -= 1;

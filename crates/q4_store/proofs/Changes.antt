@@ -1,0 +1,29 @@
+-- What the table of a store's content is after one change more.
+use Rattle.std.proofs.Common.{◌≡◌, ◌≤◌, ℕ, ◌+◌, List, [], ◌∷◌, Option, length, refl, sym, ◌∙◌, ap, subst, arith}
+use Rattle.std.proofs.lemmas.List.Sums.{fold_push}
+use Rattle.q4_value.specs.declared.row.Value.{Value}
+use Rattle.q4_table.specs.declared.origin.Origin.{Origin}
+use Rattle.q4_table.specs.TableState.{TableState}
+use Rattle.q4_table.specs.Rows.{without_row}
+use Rattle.q4_table.specs.Adding.{add_row}
+use Rattle.q4_record.specs.declared.replay.Replay.{Replay}
+use Rattle.q4_record.specs.Record.{Record}
+use Rattle.q4_record.specs.Replay.{replayed, at_batches, table_after}
+use Rattle.q4_disk.specs.Told.{Sides}
+use Rattle.q4_store.specs.Reading.{Reads}
+use Rattle.q4_store.specs.Content.{Content, row_added, row_ended, table_of, table_with, with_change, IsPrefix}
+
+more : (content : Content) (change : Record) → table_of (with_change content change) ≡ table_after (table_of content) change.head change.row
+more content change = ap (λ (replay : Replay). replay.table) (fold_push replayed (at_batches content.committed) content.pending change)
+
+pub added_is : (content : Content) (number : ℕ) (row : List Value) (origin : Option Origin) → number ≡ (table_of content).next → table_of (with_change content (row_added number row origin)) ≡ add_row (table_of content) row origin
+added_is content number row origin is_next =
+    more content (row_added number row origin) ∙ ap (λ (n : ℕ). add_row (record (table_of content) { next = n }) row origin) is_next
+
+pub ended_is : (content : Content) (number : ℕ) → table_of (with_change content (row_ended number)) ≡ record (table_of content) { rows = without_row number (table_of content).rows }
+ended_is content number = more content (row_ended number)
+
+pub none_waits : (content : Content) (generation : ℕ) (sides : Sides) → content.pending ≡ [] → IsPrefix content generation sides → Reads content.committed.columns sides content.committed generation
+none_waits content generation sides none prefix =
+    let no_count : prefix.count ≡ 0 = let few = prefix.within in let empty = ap (λ (changes : List Record). length changes) none in omega (arith, few, empty) in
+    subst (λ (n : ℕ). Reads content.committed.columns sides (table_with content n) generation) no_count prefix.reads
