@@ -24,7 +24,7 @@ Cuts bytes ended new End = ended × (bytes ≡ [])
 Cuts bytes ended new (Partial count) = ended × IsOpenLine bytes × (length bytes ≡ count) × (0 < count)
 Cuts bytes ended new TooLong = IsOneLine (take line_limit bytes) × (line_limit ≤ length bytes)
 Cuts bytes ended new ReadFault = IsOpenLine bytes
-Cuts bytes ended new Memory = Unit {0}
+Cuts bytes ended new Memory = IsOpenLine bytes
 
 -- The source gave some bytes, and P holds of them.
 abbrev pub Takes : Option (List ℕ) → Option (List ℕ) → (List ℕ → Type 0) → Type 0

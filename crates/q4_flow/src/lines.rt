@@ -1,4 +1,4 @@
-ghost use Rattle.std.specs.Prelude.{◌≡◌, ◌≢◌, ◌≤◌, ◌<◌, ◌++◌, ◌⊎◌, [], None, Some, false, length, IfOk, IsTrue};
+ghost use Rattle.std.specs.Prelude.{◌≡◌, ◌≢◌, ◌≤◌, ◌<◌, ◌++◌, ◌⊎◌, ◌+◌, [], None, Some, false, length, vec_capacity, IfOk, IsTrue};
 ghost use Rattle.q4_flow.specs.Flow.{Rose};
 ghost use Rattle.q4_flow.specs.Lines.{Next, Takes, Cuts, Appended, NewlineAt, IsOneLine, fuel};
 
@@ -27,7 +27,7 @@ pub enum LineEnd {
     TooLong,
     /// The source failed.
     ReadFault,
-    /// A line that spans reads found no memory.
+    /// A line that spans reads found no memory. The bytes that were taken have no newline.
     Memory,
 }
 
@@ -163,8 +163,10 @@ impl Lines {
         true
     }
 
-    // Carries the pending bytes over, and reads until there is a newline.
+    // Carries the pending bytes over, and reads until there is a newline. Before each read there is memory for all that it
+    // may give, so that no line is lost that was read.
     fn gather<S: Source>(&mut self, source: &mut S) -> LineEnd
+        requires { IsOneLine self.old.pending }
         ensures cut { Takes (S.left source.old) (S.left source.new) (λ taken. Cuts (self.old.pending ++ taken) (IsTrue (S.ended source.new)) self.new result) }
         ensures stopped { self.new.stopped ≡ self.old.stopped }
         ensures measure { result ≡ LineEnd.Line → fuel (S.reads source.new) self.new.pending < fuel (S.reads source.old) self.old.pending }
@@ -175,20 +177,25 @@ impl Lines {
         self.carried.clear();
         self.line_from = 0;
         self.line_until = 0;
+        if !has_room(&mut self.carried) {
+            return LineEnd::Memory;
+        }
         loop {
             match append_line(&mut self.carried, &self.chunk[self.from..self.until]) {
-                Err(NoMemory) => return LineEnd::Memory,
-                Ok(Some(at)) => {
+                Some(at) => {
                     self.from += at + 1;
                     if self.carried.len() < LINE_LIMIT {
                         return LineEnd::Line;
                     }
                     return LineEnd::TooLong;
                 }
-                Ok(None) => self.from = self.until,
+                None => self.from = self.until,
             }
             if self.carried.len() >= LINE_LIMIT {
                 return LineEnd::TooLong;
+            }
+            if !has_room(&mut self.carried) {
+                return LineEnd::Memory;
             }
             match source.read(&mut self.chunk) {
                 Err(ReadFailed) => return LineEnd::ReadFault,
@@ -207,6 +214,14 @@ impl Lines {
     }
 }
 
+// Sees to it that there is memory for a chunk behind the line, where it can be had.
+fn has_room(line: &mut Vec<u8>) -> bool
+    ensures items { line.new.items ≡ line.old.items }
+    ensures room { IsTrue result → length line.old.items + 65536 ≤ vec_capacity line.new }
+{
+    line.reserve(CHUNK_SIZE).is_ok()
+}
+
 // Where the first newline is.
 fn find_newline(bytes: &[u8]) -> Option<usize>
     ensures { NewlineAt bytes.now result }
@@ -215,16 +230,17 @@ fn find_newline(bytes: &[u8]) -> Option<usize>
 }
 
 // Puts the bytes up to the first newline behind the line, or all of them, and says where the newline is.
-fn append_line(line: &mut Vec<u8>, pending: &[u8]) -> Result<Option<usize>, NoMemory>
-    ensures { IfOk result (λ at. Appended line.old.items line.new.items pending.now at) }
+fn append_line(line: &mut Vec<u8>, pending: &[u8]) -> Option<usize>
+    requires { length line.old.items + length pending.now ≤ vec_capacity line.old }
+    ensures { Appended line.old.items line.new.items pending.now result }
 {
     let at = find_newline(pending);
     let end = match at {
         Some(at) => at,
         None => pending.len(),
     };
-    match line.extend_from_slice(&pending[..end]) {
-        Ok(()) => Ok(at),
-        Err(_) => Err(NoMemory),
-    }
+    let Ok(()) = line.extend_from_slice(&pending[..end]) else {
+        unreachable!()
+    };
+    at
 }

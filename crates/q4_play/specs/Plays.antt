@@ -88,13 +88,14 @@ stop_end (CutSpoken spoken) = None
 
 -- ## What stops a play
 
--- How the input ended: the bytes behind the lines, and whether the source ended. Want of memory is free.
+-- How the input ended: the bytes behind the lines, and whether the source ended. Want of memory may come at any time, but
+-- no line that was read goes without its turn.
 abbrev pub InputEnds : PlayEnd → List ℕ → Type 0 → Type 0
 InputEnds Ended rest ended = (rest ≡ []) × ended
 InputEnds (Partial count) rest ended = IsOpenLine rest × (length rest ≡ count) × (0 < count) × ended
 InputEnds TooLong rest ended = IsOneLine (take line_limit rest) × (line_limit ≤ length rest)
 InputEnds ReadFault rest ended = IsOpenLine rest
-InputEnds Memory rest ended = Unit {0}
+InputEnds Memory rest ended = IsOpenLine rest
 InputEnds WriteFault rest ended = ⊥
 InputEnds (Worn count) rest ended = ⊥
 

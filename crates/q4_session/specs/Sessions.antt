@@ -21,7 +21,7 @@ InputEnds Ended exchanges rest ended = GoesOn exchanges × (rest ≡ []) × ende
 InputEnds (Partial count) exchanges rest ended = GoesOn exchanges × IsOpenLine rest × (length rest ≡ count) × (0 < count) × ended
 InputEnds TooLong exchanges rest ended = GoesOn exchanges × IsOneLine (take line_limit rest) × (line_limit ≤ length rest)
 InputEnds ReadFault exchanges rest ended = GoesOn exchanges × IsOpenLine rest
-InputEnds Memory exchanges rest ended = GoesOn exchanges
+InputEnds Memory exchanges rest ended = GoesOn exchanges × IsOpenLine rest
 InputEnds WriteFault exchanges rest ended = ⊥
 InputEnds (Worn count) exchanges rest ended = ⊥
 

@@ -41,9 +41,9 @@ Asks words None = (AreRun words → ⊥) × (ArePlay words → ⊥)
 abbrev pub Prints : List ℕ → ℕ → Option (List ℕ) → Option (List ℕ) → ℕ → Type 0
 Prints line status written written' result = ((result ≡ status) × Took written written' line) ⊎ ((result ≡ 7) × TookFront written written' line)
 
--- A line was written, and nothing was read of the input.
-abbrev pub Says : List ℕ → ℕ → Option (List ℕ) → Option (List ℕ) → Option (List ℕ) → Option (List ℕ) → ℕ → Type 0
-Says line status left left' written written' result = (left' ≡ left) × Prints line status written written' result
+-- A line was written, and the input is as it was.
+abbrev pub Says : List ℕ → ℕ → Type 0 → Option (List ℕ) → Option (List ℕ) → ℕ → Type 0
+Says line status untouched written written' result = untouched × Prints line status written written' result
 
 -- the status of a session's end, and of a play's
 abbrev pub status_of : SessionEnd → ℕ
@@ -76,8 +76,8 @@ pub record IsOwn (history : List Entry) : Type 0 where
   pub settled : (place : ℕ) → IsSettled history place
   pub owed : SyncsAreOwed history
 
--- One session ran from the input to the output, with a patience whose time is always over, over the one history of a desk
--- that begins with the empty tables of these definitions. All of it is the tool's own.
+-- One session ran from the input to the output, with a patience whose time is always over, over one history that begins
+-- with the empty tables of these definitions. All of it is the tool's own.
 pub record Ran (defs : List TableDef) (left left' : Option (List ℕ)) (ended untouched : Type 0) (written written' : Option (List ℕ)) (status : ℕ) : Type 0 where
   pub history : List Entry
   pub own : IsOwn history
@@ -100,13 +100,13 @@ pub record Played (defs : List TableDef) (left left' : Option (List ℕ)) (ended
   pub status_is : status ≡ play_status how
 
 -- What is done where there are these definitions, and where there are none.
-abbrev pub Does : (List TableDef → Type 0) → Result (List TableDef) Undefined → Option (List ℕ) → Option (List ℕ) → Option (List ℕ) → Option (List ℕ) → ℕ → Type 0
-Does done (Ok defs) left left' written written' status = done defs
-Does done (Err why) left left' written written' status = Says (undefined_line why) (undefined_status why) left left' written written' status
+abbrev pub Does : (List TableDef → Type 0) → Result (List TableDef) Undefined → Type 0 → Option (List ℕ) → Option (List ℕ) → ℕ → Type 0
+Does done (Ok defs) untouched written written' status = done defs
+Does done (Err why) untouched written written' status = Says (undefined_line why) (undefined_status why) untouched written written' status
 
 -- What came of the source of definitions, which failed as often as these counts say, and what was done.
-pub record Defined (text text' : Option (List ℕ)) (text_ended : Type 0) (faults faults' : ℕ) (done : List TableDef → Type 0) (left left' written written' : Option (List ℕ)) (status : ℕ) : Type 0 where
+pub record Defined (text text' : Option (List ℕ)) (text_ended : Type 0) (faults faults' : ℕ) (done : List TableDef → Type 0) (untouched : Type 0) (written written' : Option (List ℕ)) (status : ℕ) : Type 0 where
   pub came : Result (List TableDef) Undefined
   pub comes : Comes text text' text_ended (Rose faults faults') came
   pub stayed : (faults' ≡ faults) ⊎ (came ≡ Err ReadFault)
-  pub does : Does done came left left' written written' status
+  pub does : Does done came untouched written written' status

@@ -28,13 +28,13 @@ pub fn tool<S: Source, F: Source, W: Sink>(
     ensures run { AreRun words.now → Defined
         (F.left definitions.old) (F.left definitions.new) (IsTrue (F.ended definitions.new)) (F.faults definitions.old) (F.faults definitions.new)
         (λ defs. Ran defs (S.left input.old) (S.left input.new) (IsTrue (S.ended input.new)) (input.new ≡ input.old) (W.written output.old) (W.written output.new) result)
-        (S.left input.old) (S.left input.new) (W.written output.old) (W.written output.new) result }
+        (input.new ≡ input.old) (W.written output.old) (W.written output.new) result }
     ensures play { ArePlay words.now → Defined
         (F.left definitions.old) (F.left definitions.new) (IsTrue (F.ended definitions.new)) (F.faults definitions.old) (F.faults definitions.new)
         (λ defs. Played defs (S.left input.old) (S.left input.new) (IsTrue (S.ended input.new)) (W.written output.old) (W.written output.new) result)
-        (S.left input.old) (S.left input.new) (W.written output.old) (W.written output.new) result }
-    ensures other { (AreRun words.now → ⊥) → (ArePlay words.now → ⊥) → Says (codes "words\n") 2 (S.left input.old) (S.left input.new) (W.written output.old) (W.written output.new) result }
-    ensures unread { (AreRun words.now → ⊥) → (ArePlay words.now → ⊥) → (input.new ≡ input.old) × (definitions.new ≡ definitions.old) }
+        (input.new ≡ input.old) (W.written output.old) (W.written output.new) result }
+    ensures other { (AreRun words.now → ⊥) → (ArePlay words.now → ⊥) → Says (codes "words\n") 2 (input.new ≡ input.old) (W.written output.old) (W.written output.new) result }
+    ensures unread { (AreRun words.now → ⊥) → (ArePlay words.now → ⊥) → definitions.new ≡ definitions.old }
     ensures read_fault { result ≡ 8 → Rose (S.faults input.old) (S.faults input.new) ⊎ Rose (F.faults definitions.old) (F.faults definitions.new) }
     ensures read_faults { S.faults input.old < S.faults input.new → result ≡ 8 }
     ensures read_later { S.faults input.old ≤ S.faults input.new }
@@ -60,7 +60,7 @@ pub fn tool<S: Source, F: Source, W: Sink>(
 // One session over empty tables of these definitions.
 fn run<S: Source, W: Sink>(alloc: Global, defs: Defs, input: &mut S, output: &mut W) -> u8
     ensures ran { Ran defs (S.left input.old) (S.left input.new) (IsTrue (S.ended input.new)) (input.new ≡ input.old) (W.written output.old) (W.written output.new) result
-        ⊎ Says (undefined_line undefined.Memory) 9 (S.left input.old) (S.left input.new) (W.written output.old) (W.written output.new) result }
+        ⊎ Says (undefined_line undefined.Memory) 9 (input.new ≡ input.old) (W.written output.old) (W.written output.new) result }
     ensures read_fault { result ≡ 8 → Rose (S.faults input.old) (S.faults input.new) }
     ensures read_faults { S.faults input.old < S.faults input.new → result ≡ 8 }
     ensures read_later { S.faults input.old ≤ S.faults input.new }
@@ -82,7 +82,7 @@ fn run<S: Source, W: Sink>(alloc: Global, defs: Defs, input: &mut S, output: &mu
 // Many sessions over empty tables of these definitions.
 fn run_play<S: Source, W: Sink>(alloc: Global, defs: Defs, input: &mut S, output: &mut W) -> u8
     ensures played { Played defs (S.left input.old) (S.left input.new) (IsTrue (S.ended input.new)) (W.written output.old) (W.written output.new) result
-        ⊎ Says (undefined_line undefined.Memory) 9 (S.left input.old) (S.left input.new) (W.written output.old) (W.written output.new) result }
+        ⊎ Says (undefined_line undefined.Memory) 9 (input.new ≡ input.old) (W.written output.old) (W.written output.new) result }
     ensures read_fault { result ≡ 8 → Rose (S.faults input.old) (S.faults input.new) }
     ensures read_faults { S.faults input.old < S.faults input.new → result ≡ 8 }
     ensures read_later { S.faults input.old ≤ S.faults input.new }

@@ -1,4 +1,5 @@
-use Rattle.std.proofs.Common.{◌∙◌, [], List, ℕ, Option, Some, IsTrue, refl, sym, ap, subst}
+use Rattle.std.proofs.Common.{◌≢◌, ◌∙◌, [], List, ℕ, Option, Some, IsTrue, refl, sym, ap, subst, arith}
+use Rattle.std.proofs.lemmas.List.Elements.{All-nil}
 use Rattle.q4_flow.specs.declared.lines.LineEnd.TheVariants as line
 use Rattle.q4_flow.specs.Reading.{Reading}
 use Rattle.q4_flow.proofs.Known.{gave_nothing}
@@ -95,14 +96,14 @@ returns-in-Memory-clause-lined g c =
     let takes = takes_of c.loop-desk.lines c.next.new.self _ _ _ line.Memory c.in-Memory.ensures.cut inv.running in
     ends_by_words (record { defs = definitions_of (g.K.Desk.seen c.args.desk.now); limit = g.K.Desk.limit c.args.desk.now; caller = g.K.Desk.caller c.args.desk.now }) (record { seen = g.K.Desk.seen c.args.desk.now; left = g.S.Source.left c.args.source.now; written = g.W.Sink.written c.args.sink.now; patience = g.P.Patience.state c.args.patience.now }) (record { seen = g.K.Desk.seen c.loop-desk.desk; left = g.S.Source.left c.loop-desk.source; written = g.W.Sink.written c.loop-desk.sink; patience = g.P.Patience.state c.loop-desk.patience }) (record { seen = g.K.Desk.seen c.loop-desk.desk; left = g.S.Source.left c.next.new.source; written = g.W.Sink.written c.last_reply-in-Memory.new.sink; patience = g.P.Patience.state c.loop-desk.patience })
     c.loop-desk.seating c.loop-desk.lines.pending _ (text_behind (Some 0) (told c.refused-in-Memory.result)) (IsTrue (g.S.Source.ended c.next.new.source)) ended.Memory c.last_reply-in-Memory.result inv.so_far
-    (stopped_at (record { seen = g.K.Desk.seen c.loop-desk.desk; left = g.S.Source.left c.loop-desk.source; written = g.W.Sink.written c.loop-desk.sink; patience = g.P.Patience.state c.loop-desk.patience }) (record { seen = g.K.Desk.seen c.loop-desk.desk; left = g.S.Source.left c.next.new.source; written = g.W.Sink.written c.last_reply-in-Memory.new.sink; patience = g.P.Patience.state c.loop-desk.patience }) c.loop-desk.lines c.next.new.self (IsTrue (g.S.Source.ended c.next.new.source)) line.Memory inv.running c.in-Memory.ensures.cut refl refl) tt (text_some 0 (Refused (code 90))) (ap (text_behind (Some 0)) c.refused-in-Memory.ensures) c.last_reply-in-Memory.ensures.says
+    (stopped_at (record { seen = g.K.Desk.seen c.loop-desk.desk; left = g.S.Source.left c.loop-desk.source; written = g.W.Sink.written c.loop-desk.sink; patience = g.P.Patience.state c.loop-desk.patience }) (record { seen = g.K.Desk.seen c.loop-desk.desk; left = g.S.Source.left c.next.new.source; written = g.W.Sink.written c.last_reply-in-Memory.new.sink; patience = g.P.Patience.state c.loop-desk.patience }) c.loop-desk.lines c.next.new.self (IsTrue (g.S.Source.ended c.next.new.source)) line.Memory inv.running c.in-Memory.ensures.cut refl refl) takes.2 (text_some 0 (Refused (code 90))) (ap (text_behind (Some 0)) c.refused-in-Memory.ensures) c.last_reply-in-Memory.ensures.says
 
 pub returns-in_default-clause-lined : goal.returns-in_default-clause-lined
 returns-in_default-clause-lined g c =
     ends_by_words (record { defs = definitions_of (g.K.Desk.seen c.args.desk.now); limit = g.K.Desk.limit c.args.desk.now; caller = g.K.Desk.caller c.args.desk.now }) (record { seen = g.K.Desk.seen c.args.desk.now; left = g.S.Source.left c.args.source.now; written = g.W.Sink.written c.args.sink.now; patience = g.P.Patience.state c.args.patience.now }) (record { seen = g.K.Desk.seen c.args.desk.now; left = g.S.Source.left c.args.source.now; written = g.W.Sink.written c.args.sink.now; patience = g.P.Patience.state c.args.patience.now }) (record { seen = g.K.Desk.seen c.args.desk.now; left = g.S.Source.left c.args.source.now; written = g.W.Sink.written c.last_reply.new.sink; patience = g.P.Patience.state c.args.patience.now })
     c.args.seating.now [] [] (text_behind (Some 0) (told c.refused.result)) (IsTrue (g.S.Source.ended c.args.source.now)) ended.Memory c.last_reply.result
     (subst (λ (seating : List (Option ℕ)). Taken (record { defs = definitions_of (g.K.Desk.seen c.args.desk.now); limit = g.K.Desk.limit c.args.desk.now; caller = g.K.Desk.caller c.args.desk.now }) (record { seen = g.K.Desk.seen c.args.desk.now; left = g.S.Source.left c.args.source.now; written = g.W.Sink.written c.args.sink.now; patience = g.P.Patience.state c.args.patience.now }) (record { seen = g.K.Desk.seen c.args.desk.now; left = g.S.Source.left c.args.source.now; written = g.W.Sink.written c.args.sink.now; patience = g.P.Patience.state c.args.patience.now }) seating []) (sym c.requires.nobody) (no_line (record { defs = definitions_of (g.K.Desk.seen c.args.desk.now); limit = g.K.Desk.limit c.args.desk.now; caller = g.K.Desk.caller c.args.desk.now }) (record { seen = g.K.Desk.seen c.args.desk.now; left = g.S.Source.left c.args.source.now; written = g.W.Sink.written c.args.sink.now; patience = g.P.Patience.state c.args.patience.now })))
-    (record { taken = []; gave = gave_nothing (g.S.Source.left c.args.source.now); rest_is = refl; seen = refl; patience = refl }) tt (text_some 0 (Refused (code 90))) (ap (text_behind (Some 0)) c.refused.ensures) c.last_reply.ensures.says
+    (record { taken = []; gave = gave_nothing (g.S.Source.left c.args.source.now); rest_is = refl; seen = refl; patience = refl }) (All-nil (λ byte. byte ≢ 10), omega arith) (text_some 0 (Refused (code 90))) (ap (text_behind (Some 0)) c.refused.ensures) c.last_reply.ensures.says
 
 pub returns-in_default-clause-seated : goal.returns-in_default-clause-seated
 returns-in_default-clause-seated g c = subst (IsSeated (g.K.Desk.seen c.args.desk.now) (g.K.Desk.caller c.args.desk.now)) (sym c.requires.nobody) (seated_nobody (g.K.Desk.seen c.args.desk.now) (g.K.Desk.caller c.args.desk.now))

@@ -1,4 +1,5 @@
-use Rattle.std.proofs.Common.{◌∙◌, [], List, ℕ, IsTrue, refl, sym, ap, subst}
+use Rattle.std.proofs.Common.{◌≢◌, ◌∙◌, [], List, ℕ, IsTrue, refl, sym, ap, subst, arith}
+use Rattle.std.proofs.lemmas.List.Elements.{All-nil}
 use Rattle.q4_flow.specs.declared.lines.LineEnd.TheVariants as line
 use Rattle.q4_flow.specs.Reading.{Reading}
 use Rattle.q4_flow.proofs.Known.{gave_nothing}
@@ -98,10 +99,10 @@ returns-in-Memory-clause-conversation g c = λ s is.
     let so_far = inv.so_far s is in
     let takes = takes_of c.loop-desk.lines c.next.new.self _ _ _ line.Memory c.in-Memory.ensures.cut inv.running in
     ends_by_words (record { defs = definitions_of (g.K.Desk.seen c.args.desk.now); limit = g.K.Desk.limit c.args.desk.now; caller = g.K.Desk.caller c.args.desk.now; session = s }) (record { seen = g.K.Desk.seen c.args.desk.now; left = g.S.Source.left c.args.source.now; written = g.W.Sink.written c.args.sink.now; patience = g.P.Patience.state c.args.patience.now }) (record { seen = g.K.Desk.seen c.loop-desk.desk; left = g.S.Source.left c.loop-desk.source; written = g.W.Sink.written c.loop-desk.sink; patience = g.P.Patience.state c.loop-desk.patience }) (record { seen = g.K.Desk.seen c.loop-desk.desk; left = g.S.Source.left c.next.new.source; written = g.W.Sink.written c.last_reply-in-Memory.new.sink; patience = g.P.Patience.state c.loop-desk.patience }) c.loop-desk.lines.pending _ (IsTrue (g.S.Source.ended c.next.new.source)) end.Memory c.last_reply-in-Memory.result (told c.refused-in-Memory.result) so_far
-    (stopped_at (record { seen = g.K.Desk.seen c.loop-desk.desk; left = g.S.Source.left c.loop-desk.source; written = g.W.Sink.written c.loop-desk.sink; patience = g.P.Patience.state c.loop-desk.patience }) (record { seen = g.K.Desk.seen c.loop-desk.desk; left = g.S.Source.left c.next.new.source; written = g.W.Sink.written c.last_reply-in-Memory.new.sink; patience = g.P.Patience.state c.loop-desk.patience }) c.loop-desk.lines c.next.new.self (IsTrue (g.S.Source.ended c.next.new.source)) line.Memory inv.running c.in-Memory.ensures.cut refl refl) so_far.goes_on (λ e. cc e) (ap text c.refused-in-Memory.ensures) c.last_reply-in-Memory.ensures.reply
+    (stopped_at (record { seen = g.K.Desk.seen c.loop-desk.desk; left = g.S.Source.left c.loop-desk.source; written = g.W.Sink.written c.loop-desk.sink; patience = g.P.Patience.state c.loop-desk.patience }) (record { seen = g.K.Desk.seen c.loop-desk.desk; left = g.S.Source.left c.next.new.source; written = g.W.Sink.written c.last_reply-in-Memory.new.sink; patience = g.P.Patience.state c.loop-desk.patience }) c.loop-desk.lines c.next.new.self (IsTrue (g.S.Source.ended c.next.new.source)) line.Memory inv.running c.in-Memory.ensures.cut refl refl) (so_far.goes_on, takes.2) (λ e. cc e) (ap text c.refused-in-Memory.ensures) c.last_reply-in-Memory.ensures.reply
 
 pub returns-in_default-clause-conversation : goal.returns-in_default-clause-conversation
 returns-in_default-clause-conversation g c = λ s is.
     let start = no_line (record { defs = definitions_of (g.K.Desk.seen c.args.desk.now); limit = g.K.Desk.limit c.args.desk.now; caller = g.K.Desk.caller c.args.desk.now; session = s }) (record { seen = g.K.Desk.seen c.args.desk.now; left = g.S.Source.left c.args.source.now; written = g.W.Sink.written c.args.sink.now; patience = g.P.Patience.state c.args.patience.now }) in
     ends_by_words (record { defs = definitions_of (g.K.Desk.seen c.args.desk.now); limit = g.K.Desk.limit c.args.desk.now; caller = g.K.Desk.caller c.args.desk.now; session = s }) (record { seen = g.K.Desk.seen c.args.desk.now; left = g.S.Source.left c.args.source.now; written = g.W.Sink.written c.args.sink.now; patience = g.P.Patience.state c.args.patience.now }) (record { seen = g.K.Desk.seen c.args.desk.now; left = g.S.Source.left c.args.source.now; written = g.W.Sink.written c.args.sink.now; patience = g.P.Patience.state c.args.patience.now }) (record { seen = g.K.Desk.seen c.args.desk.now; left = g.S.Source.left c.args.source.now; written = g.W.Sink.written c.last_reply.new.sink; patience = g.P.Patience.state c.args.patience.now }) [] [] (IsTrue (g.S.Source.ended c.args.source.now)) end.Memory c.last_reply.result (told c.refused.result) start
-    (record { taken = []; gave = gave_nothing (g.S.Source.left c.args.source.now); rest_is = refl; seen = refl; patience = refl }) start.goes_on (λ e. cc e) (ap text c.refused.ensures) c.last_reply.ensures.reply
+    (record { taken = []; gave = gave_nothing (g.S.Source.left c.args.source.now); rest_is = refl; seen = refl; patience = refl }) (start.goes_on, (All-nil (λ byte. byte ≢ 10), omega arith)) (λ e. cc e) (ap text c.refused.ensures) c.last_reply.ensures.reply

@@ -1,4 +1,4 @@
-use Rattle.std.proofs.Common.{◌≡◌, ◌≤◌, ◌++◌, List, ℕ, length, slice_range}
+use Rattle.std.proofs.Common.{◌≡◌, ◌≤◌, ◌+◌, ◌++◌, List, ℕ, length, slice_range, vec_capacity}
 use Rattle.q4_flow.specs.Flow.{Gave}
 use Rattle.q4_flow.specs.Lines.{IsOneLine, fuel}
 use Rattle.q4_flow.proofs.lines.Lines.gather.Given as goal
@@ -16,6 +16,7 @@ invariant-loop-at g l = record {
   gave : Gave (g.S.Source.left l.fn.source) (g.S.Source.left l.source) taken;
   so_far : l.fn.self.pending ++ taken ≡ l.self-inside.carried.items ++ slice_range l.self-inside.chunk.items l.self-inside.from l.self-inside.until;
   one_line : IsOneLine l.self-inside.carried.items;
+  room : length l.self-inside.carried.items + 65536 ≤ vec_capacity l.self-inside.carried;
   costs : fuel (g.S.Source.reads l.source) (slice_range l.self-inside.chunk.items l.self-inside.from l.self-inside.until) ≤ fuel (g.S.Source.reads l.fn.source) l.fn.self.pending;
   faults : g.S.Source.faults l.source ≡ g.S.Source.faults l.fn.source;
 }
