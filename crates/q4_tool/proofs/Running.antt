@@ -1,5 +1,5 @@
 -- What came of the definitions, with what was done then.
-use Rattle.std.proofs.Common.{◌≡◌, ◌≢◌, ◌<◌, ◌⊎◌, List, ℕ, Option, Result, Ok, Err, inl, inr, refl, arith}
+use Rattle.std.proofs.Common.{◌≡◌, ◌≢◌, ◌<◌, ◌⊎◌, List, ℕ, Option, Result, Ok, Err, inl, inr, arith}
 use Rattle.q4_flow.specs.Flow.{Rose}
 use Rattle.q4_def.specs.declared.table_def.TableDef.{TableDef}
 use Rattle.q4_tool.specs.declared.definitions.Undefined.{Undefined}
@@ -24,22 +24,22 @@ other_fault faults faults' why other (inl same) = same
 other_fault faults faults' why other (inr is) = absurd (other (cc is))
 
 -- definitions came, and what they were for was done, or memory was wanted
-pub done_defined : (text text' : Option (List ℕ)) (text_ended : Type 0) (faults faults' : ℕ) (done : List TableDef → Type 0) (left left' written written' : Option (List ℕ)) (status : ℕ) (defs : List TableDef)
+pub done_defined : (text text' : Option (List ℕ)) (text_ended : Type 0) (faults faults' : ℕ) (done : List TableDef → Type 0) (untouched : Type 0) (written written' : Option (List ℕ)) (status : ℕ) (defs : List TableDef)
     → Comes text text' text_ended (Rose faults faults') (Ok defs) → (faults' ≡ faults) ⊎ (◌≡◌ {A = Result (List TableDef) Undefined} (Ok defs) (Err ReadFault))
-    → done defs ⊎ Says (undefined_line Memory) 9 left left' written written' status
-    → Defined text text' text_ended faults faults' done left left' written written' status
-done_defined text text' text_ended faults faults' done left left' written written' status defs comes stayed (inl is_done) = record { came = Ok defs; comes = comes; stayed = stayed; does = is_done }
-done_defined text text' text_ended faults faults' done left left' written written' status defs comes stayed (inr says) =
+    → done defs ⊎ Says (undefined_line Memory) 9 untouched written written' status
+    → Defined text text' text_ended faults faults' done untouched written written' status
+done_defined text text' text_ended faults faults' done untouched written written' status defs comes stayed (inl is_done) = record { came = Ok defs; comes = comes; stayed = stayed; does = is_done }
+done_defined text text' text_ended faults faults' done untouched written written' status defs comes stayed (inr says) =
     record { came = Err Memory; comes = gave_some text text' text_ended (Rose faults faults') (Ok defs) comes; stayed = inl (no_fault faults faults' defs stayed); does = says }
 
 -- none came, and it was said why, or memory was wanted
-pub refused_defined : (text text' : Option (List ℕ)) (text_ended : Type 0) (faults faults' : ℕ) (done : List TableDef → Type 0) (left written written' : Option (List ℕ)) (status : ℕ) (why : Undefined)
+pub refused_defined : (text text' : Option (List ℕ)) (text_ended : Type 0) (faults faults' : ℕ) (done : List TableDef → Type 0) (untouched : Type 0) (written written' : Option (List ℕ)) (status : ℕ) (why : Undefined)
     → Comes text text' text_ended (Rose faults faults') (Err why) → (faults' ≡ faults) ⊎ (◌≡◌ {A = Result (List TableDef) Undefined} (Err why) (Err ReadFault))
     → Prints (undefined_line why) (undefined_status why) written written' status ⊎ ((why ≢ ReadFault) × Prints (undefined_line Memory) 9 written written' status)
-    → Defined text text' text_ended faults faults' done left left written written' status
-refused_defined text text' text_ended faults faults' done left written written' status why comes stayed (inl prints) = record { came = Err why; comes = comes; stayed = stayed; does = (refl, prints) }
-refused_defined text text' text_ended faults faults' done left written written' status why comes stayed (inr prints) =
-    record { came = Err Memory; comes = gave_some text text' text_ended (Rose faults faults') (Err why) comes; stayed = inl (other_fault faults faults' why prints.0 stayed); does = (refl, prints.1) }
+    → untouched → Defined text text' text_ended faults faults' done untouched written written' status
+refused_defined text text' text_ended faults faults' done untouched written written' status why comes stayed (inl prints) same = record { came = Err why; comes = comes; stayed = stayed; does = (same, prints) }
+refused_defined text text' text_ended faults faults' done untouched written written' status why comes stayed (inr prints) same =
+    record { came = Err Memory; comes = gave_some text text' text_ended (Rose faults faults') (Err why) comes; stayed = inl (other_fault faults faults' why prints.0 stayed); does = (same, prints.1) }
 
 -- a source whose count rose failed
 pub rose_unread : (why : Undefined) (before now : ℕ) → (now ≡ before) ⊎ (◌≡◌ {A = Result (List TableDef) Undefined} (Err why) (Err ReadFault)) → before < now → why ≡ ReadFault
