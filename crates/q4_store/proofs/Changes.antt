@@ -1,5 +1,6 @@
 -- What the table of a store's content is after one change more.
 use Rattle.std.proofs.Common.{◌≡◌, ◌≤◌, ℕ, ◌+◌, List, [], ◌∷◌, Option, length, refl, sym, ◌∙◌, ap, subst, arith}
+use Rattle.std.proofs.lemmas.List.{take-append-le}
 use Rattle.std.proofs.lemmas.List.Sums.{fold_push}
 use Rattle.q4_value.specs.declared.row.Value.{Value}
 use Rattle.q4_table.specs.declared.origin.Origin.{Origin}
@@ -8,9 +9,10 @@ use Rattle.q4_table.specs.Rows.{without_row}
 use Rattle.q4_table.specs.Adding.{add_row}
 use Rattle.q4_record.specs.declared.replay.Replay.{Replay}
 use Rattle.q4_record.specs.Record.{Record}
-use Rattle.q4_record.specs.Replay.{replayed, at_batches, table_after}
+use Rattle.q4_record.specs.Replay.{replayed, replays, at_batches, table_after}
 use Rattle.q4_disk.specs.Told.{Sides}
 use Rattle.q4_store.specs.Reading.{Reads}
+use Rattle.q4_store.proofs.Quiet.{reads_once}
 use Rattle.q4_store.specs.Content.{Content, row_added, row_ended, table_of, table_with, with_change, IsPrefix}
 
 more : (content : Content) (change : Record) → table_of (with_change content change) ≡ table_after (table_of content) change.head change.row
@@ -27,3 +29,12 @@ pub none_waits : (content : Content) (generation : ℕ) (sides : Sides) → cont
 none_waits content generation sides none prefix =
     let no_count : prefix.count ≡ 0 = let few = prefix.within in let empty = ap (λ (changes : List Record). length changes) none in omega (arith, few, empty) in
     subst (λ (n : ℕ). Reads content.committed.columns sides (table_with content n) generation) no_count prefix.reads
+
+pub read_again : (content : Content) (generation h : ℕ) (sides : Sides) (table : TableState) → IsPrefix content generation sides → Reads content.committed.columns sides table h
+    → (count : ℕ) × (count ≤ length content.pending) × (table ≡ table_with content count) × (h ≡ generation)
+read_again content generation h sides table prefix reads =
+    let same = reads_once content.committed.columns sides table (table_with content prefix.count) h generation reads prefix.reads in
+    (prefix.count, prefix.within, same.0, same.1)
+
+pub earlier_stays : (content : Content) (change : Record) (count : ℕ) → count ≤ length content.pending → table_with (with_change content change) count ≡ table_with content count
+earlier_stays content change count within = ap (λ (changes : List Record). (replays (at_batches content.committed) changes).table) (take-append-le count content.pending (change ∷ []) within)

@@ -48,6 +48,14 @@ OpenFails columns sides (fault.Schema column) = (side : Side) × CurrentFails co
 OpenFails columns sides (fault.Large limit) = (side : Side) × CurrentFails columns sides side (side_fault.Large limit)
 OpenFails columns sides fault.Memory = Unit {0}
 
+-- It says nothing of the sides: the disk failed, or memory was wanted.
+abbrev pub IsOutside : OpenFault → Type 0
+IsOutside fault.Disk = Unit {0}
+IsOutside (fault.Damaged side place) = ⊥
+IsOutside (fault.Schema column) = ⊥
+IsOutside (fault.Large limit) = ⊥
+IsOutside fault.Memory = Unit {0}
+
 -- The count of faults rises where the disk failed, and stays with every other answer.
 abbrev pub CountsOpen : OpenFault → ℕ → ℕ → Type 0
 CountsOpen fault.Disk before now = bump before ≤ now

@@ -1,6 +1,6 @@
 //! What holds of two sides whatever a call does. These functions do nothing: their contracts are the laws.
 
-ghost use Rattle.std.specs.Prelude.{◌≡◌, ◌⊎◌, ℕ, List, [], Option, length};
+ghost use Rattle.std.specs.Prelude.{◌≡◌, ◌≤◌, ◌⊎◌, ℕ, List, [], Option, length};
 ghost use Rattle.q4_value.specs.declared.column.Column.{Column as Header};
 ghost use Rattle.q4_value.specs.declared.row.Value.{Value as Field};
 ghost use Rattle.q4_value.specs.Names.{AreColumns};
@@ -13,8 +13,8 @@ ghost use Rattle.q4_disk.specs.Told.{Sides};
 ghost use Rattle.q4_store.specs.declared.fault.OpenFault.{OpenFault as Fault};
 ghost use Rattle.q4_store.specs.declared.fault.OpenFault.TheVariants as fault;
 ghost use Rattle.q4_store.specs.Reading.{Reads};
-ghost use Rattle.q4_store.specs.Opening.{OpenFails};
-ghost use Rattle.q4_store.specs.Content.{Content, row_added, row_ended, table_of, with_change, all_committed, IsPrefix};
+ghost use Rattle.q4_store.specs.Opening.{OpenFails, IsOutside};
+ghost use Rattle.q4_store.specs.Content.{Content, row_added, row_ended, table_of, table_with, with_change, all_committed, IsPrefix};
 ghost use Rattle.q4_store.specs.Lengths.{change_size, waiting_size, change_cost};
 ghost use Rattle.q4_store.specs.Store.{pending_length, batch_size};
 
@@ -25,6 +25,9 @@ pub fn opening_laws()
     // Where they read as a table there is no fault but that of the disk and want of memory.
     ensures apart { (columns : List Header) (sides : Sides) (table : TableState) (g : ℕ) (why : Fault) → AreColumns columns → Reads columns sides table g → OpenFails columns sides why
         → (why ≡ fault.Disk) ⊎ (why ≡ fault.Memory) }
+    // They have one fault at most.
+    ensures one_fault { (columns : List Header) (sides : Sides) (why way : Fault) → AreColumns columns → OpenFails columns sides why → OpenFails columns sides way
+        → (why ≡ way) ⊎ IsOutside why ⊎ IsOutside way }
 {}
 
 /// Laws of what a store stands for.
@@ -36,6 +39,11 @@ pub fn content_laws()
         → table_of (with_change content (row_ended number)) ≡ record (table_of content) { rows = without_row number (table_of content).rows } }
     // A commit leaves the table.
     ensures committed { (content : Content) → table_of (all_committed content) ≡ table_of content }
+    // What is read again is what is committed and a prefix of what waits, with the store's generation.
+    ensures reopened { (content : Content) (generation h : ℕ) (sides : Sides) (table : TableState) → IsPrefix content generation sides → Reads content.committed.columns sides table h
+        → (count : ℕ) × (count ≤ length content.pending) × (table ≡ table_with content count) × (h ≡ generation) }
+    // A change leaves what was there before it.
+    ensures earlier { (content : Content) (change : Change) (count : ℕ) → count ≤ length content.pending → table_with (with_change content change) count ≡ table_with content count }
     // Where nothing waits, what opening gives is all that is committed.
     ensures nothing_waits { (content : Content) (generation : ℕ) (sides : Sides) → content.pending ≡ [] → IsPrefix content generation sides
         → Reads content.committed.columns sides content.committed generation }

@@ -2,6 +2,7 @@ ghost use Rattle.std.specs.Prelude.{◌≡◌, ◌≢◌, ◌+◌, ◌-◌, ◌*
 ghost use Rattle.q4_value.specs.Names.{AreColumns};
 ghost use Rattle.q4_value.specs.Row.{IsValue};
 ghost use Rattle.q4_record.specs.Record.{record_bytes};
+ghost use Rattle.q4_record.specs.Side.{side_limit};
 ghost use Rattle.q4_disk.specs.Told.{Sides, Told};
 ghost use Rattle.q4_disk.specs.Images.{on, written};
 ghost use Rattle.q4_disk.specs.Time.{LeavesOnly};
@@ -74,7 +75,7 @@ impl<D: Disk> Store<D> {
         // Its side is the one that counts, or side A where neither is open.
         ensures side { IfOk result (λ opened. IsTrue (D.told disk).honest → IsChosen (D.told disk).bytes opened.0.side) }
         ensures stands { IfOk result (λ opened. StandsFor D.told opened.0 (record { committed = opened.1; pending = [] })) }
-        ensures fresh { IfOk result (λ opened. (opened.0.failed ≡ false) × (opened.0.records ≡ []) × (opened.1.columns ≡ def.now.columns)) }
+        ensures fresh { IfOk result (λ opened. (opened.0.failed ≡ false) × (opened.0.records ≡ []) × (opened.0.reserved ≡ 0) × (opened.1.columns ≡ def.now.columns)) }
         // Whatever the disk tells.
         ensures generation { IfOk result (λ opened. (1 ≤ opened.0.generation) × (opened.0.generation ≤ 2 ^ 62)) }
         // At each moment inside it each image reads as one that there was.
@@ -142,6 +143,8 @@ impl<D: Disk> Store<D> {
     /// The length of the side up to and with its closing gate, with what is pending.
     pub fn length(&self) -> u64
         ensures length { result ≡ length_of self.now }
+        // There is room for the end of each row.
+        ensures room { result + 32 * self.now.rows ≤ side_limit }
         // Told by the changes that wait.
         ensures content { (content : Content) → StandsFor D.told self.now content → result ≡ self.now.end + waiting_size content.pending }
     {
@@ -268,7 +271,7 @@ impl<D: Disk> Store<D> {
         // After success all is committed, and after a failure the store stands for the same content.
         ensures done { OnOk result ((content : Content) → StandsFor D.told self.old content → StandsFor D.told self.new (all_committed content)) }
         ensures open { OnErr result ((content : Content) → StandsFor D.told self.old content → StandsFor D.told self.new content) }
-        ensures committed { OnOk result (self.new ≡ record self.old { disk = self.new.disk; end = length_of self.old; records = []; reserved = self.new.reserved }) }
+        ensures committed { OnOk result (self.old.records ≢ [] → self.new ≡ record self.old { disk = self.new.disk; end = length_of self.old; records = []; reserved = 0 }) }
         // What the side reads as then: the batch stands from the old closing gate on, which is open, and it ends with a closed one.
         ensures bytes { OnOk result (IsTrue (D.told self.old.disk).honest → self.old.records ≢ []
             → on self.old.side (D.told self.new.disk).bytes ≡ written (written (on self.old.side (D.told self.old.disk).bytes) self.old.end (sealed self.old.records)) (self.old.end - 1) (1 ∷ [])) }

@@ -1,5 +1,5 @@
 use Rattle.std.proofs.Common.{refl}
-use Rattle.q4_store.proofs.Changes.{added_is, ended_is, none_waits}
+use Rattle.q4_store.proofs.Changes.{added_is, ended_is, read_again, earlier_stays, none_waits}
 use Rattle.q4_store.proofs.laws.content_laws.Goals as goal
 
 pub returns-clause-added : goal.returns-clause-added
@@ -13,3 +13,9 @@ returns-clause-committed c = λ content. refl
 
 pub returns-clause-nothing_waits : goal.returns-clause-nothing_waits
 returns-clause-nothing_waits c = none_waits
+
+pub returns-clause-reopened : goal.returns-clause-reopened
+returns-clause-reopened c = read_again
+
+pub returns-clause-earlier : goal.returns-clause-earlier
+returns-clause-earlier c = earlier_stays

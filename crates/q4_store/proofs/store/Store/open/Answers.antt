@@ -17,7 +17,7 @@ returns-clause-stands g c =
 pub returns-clause-fresh : goal.returns-clause-fresh
 returns-clause-fresh g c =
     let found = c.in-Ok.ensures in
-    (refl, c.in-Ok-hold.ensures.records, (sound_side _ found.sound.0 c.in-Ok.found.table c.in-Ok.found.generation c.in-Ok.found.end (are_columns _ c.requires) found.sound.1).columns_are)
+    (refl, c.in-Ok-hold.ensures.records, refl, (sound_side _ found.sound.0 c.in-Ok.found.table c.in-Ok.found.generation c.in-Ok.found.end (are_columns _ c.requires) found.sound.1).columns_are)
 
 pub returns-clause-generation : goal.returns-clause-generation
 returns-clause-generation g c =
