@@ -6,3 +6,4 @@ pub mod Closing
 pub mod Taking
 pub mod Causing
 pub mod Gone
+pub mod Granting

@@ -7,7 +7,7 @@ mod plays;
 mod seating;
 mod turns;
 
-pub use laws::closed_sessions_stay_closed;
+pub use laws::{closed_sessions_stay_closed, granted_commands_are_done};
 pub use plays::{PlayEnd, play};
 
 #[cfg(test)]
