@@ -240,6 +240,28 @@ fn ends_and_forwarded_rows_are_read_again(rt: HostRuntime) {
     );
 }
 
+// Memory and room are there for as many rows as are read again, and for one more.
+#[test]
+fn many_rows_are_read_again(rt: HostRuntime) {
+    let alloc = rt.alloc();
+    let (mut store, _) = opened(&rt, alloc, MemoryDisk::new(alloc));
+    let row = job(&rt, alloc, 7, "a");
+    for number in 1..3001 {
+        append(&rt, &mut store, number, &row, None);
+    }
+    // 45, then 5 and 3,000 records of 9 and 13 bytes
+    assert_eq!(rt; store.length(), 66_050);
+    assert_eq!(rt; store.commit(), Ok(()));
+    let (mut store, table) = opened(&rt, alloc, store.give_back());
+    assert_eq!(rt; (table.count(), table.next(), store.length()), (3000, 3001, 66_050));
+    for number in 1..3001 {
+        end(&rt, &mut store, number);
+    }
+    append(&rt, &mut store, 3001, &row, None);
+    assert_eq!(rt; store.commit(), Ok(()));
+    assert_eq!(rt; given(&rt, alloc, store.give_back()), Ok((1, 1, 3002, 93_077)));
+}
+
 #[test]
 fn a_store_that_failed_makes_no_call(rt: HostRuntime) {
     let alloc = rt.alloc();

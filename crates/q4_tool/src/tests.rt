@@ -302,7 +302,7 @@ fn other_words(rt: HostRuntime) {
 }
 
 // What `play` reads and writes, and its status. The last two are the scenarios of the program's data folder, byte by byte.
-const PLAYS: [(&[u8], &[u8], u8); 8] = [
+const PLAYS: [(&[u8], &[u8], u8); 9] = [
     (b"", b"", 0),
     (
         b"1 insert\tjobs\t1\ta\n1 insert\tjobs\t1\tb\n1 wait\tjobs:body='a'\t=0\n2 wait\tjobs:body='a'\t=0\n1 abort\n2 wait\tjobs\t=0\n2 rowid\n",
@@ -323,6 +323,12 @@ const PLAYS: [(&[u8], &[u8], u8); 8] = [
         b"1 end\n1 ",
         b"1 err\t31\tnot in owner mode\n0 err\t61\tpartial line\n",
         6,
+    ),
+    // Rows of two tables, seen by their owners and by others.
+    (
+        b"1 insert\thot\t4\n1 insert\tjobs\t2\tb\n2 wait\thot:prio>4\tjobs\thot\t=0\n3 wait\tjobs\thot\t=0\n2 select\tjobs\t9\n3 select\thot\t9\n1 select\thot\t9\n2 abort\n1 select\tjobs\t9\n",
+        b"1 ok\t1\n1 ok\t1\n2 ok\t2\n3 ok\t2\n2 rows\t1\n2 row\t1\t2\tb\n3 rows\t1\n3 row\t1\t4\n1 rows\t0\n2 ok\n1 rows\t1\n1 row\t1\t2\tb\n",
+        0,
     ),
     // No time is waited.
     (b"7 wait\tjobs\t=3600\n", b"7 ok\t0\n", 0),
