@@ -85,6 +85,7 @@ fn texts_read_or_have_a_fault(rt: HostRuntime) -> Result<(), Fail> {
         ("(body='x')='y'", Some(CondFault::Kinds(11))),
         ("((body))=('x')", None),
         ("prio + 'a' = 1", Some(CondFault::Kinds(7))),
+        ("prio = 'a'", Some(CondFault::Kinds(7))),
         ("1 = not 2", Some(CondFault::At(4))),
         ("not not 1", None),
         ("- - 1", None),
