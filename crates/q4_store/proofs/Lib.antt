@@ -14,3 +14,4 @@ pub mod Drafts
 pub mod Finding
 pub mod Opened
 pub mod Apart
+pub mod Runs

@@ -6,3 +6,4 @@ pub mod Store
 pub mod Waiting
 pub mod Opening
 pub mod Looking
+pub mod Device

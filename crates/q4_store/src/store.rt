@@ -10,6 +10,7 @@ ghost use Rattle.q4_store.specs.Reading.{Reads, ReadsAs};
 ghost use Rattle.q4_store.specs.Looking.{OnlyReads, HasOpen};
 ghost use Rattle.q4_store.specs.Opening.{IsChosen, OpenFails, CountsOpen};
 ghost use Rattle.q4_store.specs.Commit.{sealed};
+ghost use Rattle.q4_store.specs.Device.{Makes, commit_calls};
 ghost use Rattle.q4_store.specs.Content.{Content, row_added, row_ended, with_change, all_committed, IsPrefix};
 ghost use Rattle.q4_store.specs.Store.{StandsFor, TakesRow, HasRow, IsOver, IsRefused, length_of, cost_of, pending_length, batch_size};
 
@@ -265,6 +266,9 @@ impl<D: Disk> Store<D> {
         ensures calm { OnOk result ((D.told self.new.disk).faults ≡ (D.told self.old.disk).faults) }
         ensures again { self.old.failed ≡ true → IsErr result × (self.new ≡ self.old) }
         ensures nothing { self.old.failed ≡ false → self.old.records ≡ [] → IsOk result × (self.new ≡ self.old) }
+        // Its device calls, in their order.
+        ensures device { self.old.failed ≡ false → self.old.records ≢ []
+            → Makes D.told (commit_calls self.old.side self.old.end (sealed self.old.records)) result self.old.disk self.new.disk }
         ensures calls { (D.told self.new.disk).calls ≤ (D.told self.old.disk).calls + 4 }
         ensures writes { (D.told self.new.disk).writes ≤ (D.told self.old.disk).writes + 2 }
         ensures syncs { (D.told self.new.disk).syncs ≤ (D.told self.old.disk).syncs + 2 }
