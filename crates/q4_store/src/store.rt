@@ -3,10 +3,11 @@ ghost use Rattle.q4_value.specs.Names.{AreColumns};
 ghost use Rattle.q4_value.specs.Row.{IsValue};
 ghost use Rattle.q4_record.specs.Record.{record_bytes};
 ghost use Rattle.q4_disk.specs.Told.{Sides, Told};
-ghost use Rattle.q4_disk.specs.Images.{on, written};
+ghost use Rattle.q4_disk.specs.Images.{on, other, written};
 ghost use Rattle.q4_disk.specs.Time.{LeavesOnly};
 ghost use Rattle.q4_disk.specs.Calls.{bump};
 ghost use Rattle.q4_store.specs.Reading.{Reads, ReadsAs};
+ghost use Rattle.q4_store.specs.Parts.{IsShut};
 ghost use Rattle.q4_store.specs.Looking.{OnlyReads, HasOpen};
 ghost use Rattle.q4_store.specs.Opening.{IsChosen, OpenFails, CountsOpen};
 ghost use Rattle.q4_store.specs.Commit.{sealed};
@@ -74,6 +75,8 @@ impl<D: Disk> Store<D> {
         // Its side is the one that counts, or side A where neither is open.
         ensures side { IfOk result (λ opened. IsTrue (D.told disk).honest → IsChosen (D.told disk).bytes opened.0.side) }
         ensures stands { IfOk result (λ opened. StandsFor D.told opened.0 (record { committed = opened.1; pending = [] })) }
+        // Whether the gate of the other side is there and closed is known exactly.
+        ensures known { IfOk result (λ opened. IsTrue (D.told disk).honest → (opened.0.known ≡ true) ↔ IsShut (on (other opened.0.side) (D.told disk).bytes)) }
         ensures fresh { IfOk result (λ opened. (opened.0.failed ≡ false) × (opened.0.records ≡ []) × (opened.1.columns ≡ def.now.columns)) }
         // Whatever the disk tells.
         ensures generation { IfOk result (λ opened. (1 ≤ opened.0.generation) × (opened.0.generation ≤ 2 ^ 62)) }
