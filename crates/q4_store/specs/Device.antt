@@ -71,9 +71,13 @@ abbrev pub close_calls : Side → Bool → List DeviceCall
 close_calls side true = []
 close_calls side false = Write side 0 (0 ∷ []) ∷ Sync side ∷ []
 
--- The first part of writing a table onto a side: it is closed, cut to its gate, and zeros come behind that.
+-- it is cut to its gate, and zeros come behind that
+abbrev pub blank_calls : Side → List DeviceCall
+blank_calls side = Cut side 1 ∷ Write side 1 (replicate 20 0) ∷ []
+
+-- The first part of writing a table onto a side.
 abbrev pub prepare_calls : Side → Bool → List DeviceCall
-prepare_calls side known = close_calls side known ++ Cut side 1 ∷ Write side 1 (replicate 20 0) ∷ []
+prepare_calls side known = close_calls side known ++ blank_calls side
 
 -- The second: what is left of the table, its header, and a sync.
 abbrev pub fill_calls : Side → ℕ → List ℕ → List ℕ → List DeviceCall
