@@ -1,5 +1,5 @@
 -- What a commit makes of a store.
-use Rattle.std.proofs.Common.{◌≡◌, ◌≢◌, ℕ, ◌+◌, ◌*◌, ◌≤◌, Bool, true, false, List, [], ◌∷◌, ◌++◌, None, Some, length, ◌↔◌, IsTrue, refl, sym, ◌∙◌, ap, subst, arith, append_assoc}
+use Rattle.std.proofs.Common.{◌≡◌, ◌≢◌, ℕ, ◌+◌, ◌*◌, ◌≤◌, length-append, Bool, true, false, List, [], ◌∷◌, ◌++◌, None, Some, length, ◌↔◌, IsTrue, refl, sym, ◌∙◌, ap, subst, arith, append_assoc}
 use Rattle.q4_table.specs.TableState.{TableState}
 use Rattle.q4_value.specs.Spelling.{row_bytes}
 use Rattle.q4_record.specs.declared.head.Head.{Head}
@@ -8,13 +8,14 @@ use Rattle.q4_record.specs.Record.{Record, head_bytes, records_bytes}
 use Rattle.q4_record.specs.Side.{side_limit, Side as IsSide}
 use Rattle.q4_disk.specs.declared.disk.Side.{Side}
 use Rattle.q4_disk.specs.Told.{Sides, Told}
-use Rattle.q4_disk.specs.Images.{on, other, Within}
+use Rattle.q4_disk.specs.Images.{on, other, size, Within}
 use Rattle.q4_disk.specs.Time.{LeavesOnly, OtherStays}
 use Rattle.q4_disk.proofs.Moments.{weaker, left_now}
 use Rattle.q4_store.specs.Parts.{IsShut}
 use Rattle.q4_store.specs.Commit.{sealed, EndsBehind, IsOpenBehind, MayHaveBatch, grown}
 use Rattle.q4_store.specs.Content.{Content, changed, table_of, all_committed, IsPrefix}
-use Rattle.q4_store.specs.Store.{Stored, StandsFor, IsSettled, pending_length, length_of}
+use Rattle.q4_store.specs.Store.{Stored, StandsFor, IsSettled, IsHeld, pending_length, length_of}
+use Rattle.std.specs.Int.{w32, to_be_bytes}
 use Rattle.q4_store.proofs.Lifting.{reads_current, front, p, ends, may_read, settled_then}
 
 -- a record has bytes
@@ -115,3 +116,23 @@ module _ {D : Type 0} (told : D → Told) (store : Stored D) (content : Content)
       let open_is = subst (λ (l : List ℕ). IsOpenBehind the_front l (grown old store.side store.end l) (on store.side new.bytes)) (is ∙ ap sealed s.records) is_open in
       let added : more ≡ 5 + length (records_bytes content.pending) = more_is ∙ some_wait store.records some ∙ ap (λ (l : List ℕ). 5 + length l) s.records in
       subst (λ (n : ℕ). IsSettled new store.side (table_of content) store.generation (store.end + n)) (sym added) (settled_then old store.side content store.generation store.end settled s.stand fits new open_is only stays)
+
+-- there is as much room as before, and memory
+pub held_then : {D : Type 0} (told : D → Told) (store : Stored D) (new : D) (bytes records : List ℕ) (more memory later copied : ℕ) → IsHeld told store memory copied → store.records ≢ [] → (told new).honest ≡ (told store.disk).honest
+    → bytes ≡ sealed store.records → more ≡ pending_length store.records → records ≡ [] → memory ≤ later → (IsTrue (told store.disk).honest → store.end + length bytes ≤ size store.side (told new).bytes)
+    → IsHeld told (record store { disk = new; end = store.end + more; records = records; reserved = 0; failed = false }) later copied
+held_then told store new bytes records more memory later copied held some same is more_is none memory_is long =
+    let none_waits = ap pending_length none in
+    let size_is : length bytes ≡ 5 + length store.records = omega (arith, ap length is, length-append (to_be_bytes w32 (length store.records)) (store.records ++ 0 ∷ []), length-append store.records (0 ∷ [])) in
+    record {
+      kept = record {
+        gate = omega (arith, held.kept.gate);
+        within = λ honest whole. let fits = long (sym same ∙ honest) in omega (arith, fits, size_is, more_is, some_wait store.records some);
+        room = omega (arith, held.kept.room, more_is, none_waits);
+        reserve = λ wanted. absurd (omega (arith, wanted));
+      };
+      batch = omega (arith, held.batch, memory_is);
+      copy = held.copy;
+      reserve_batch = λ wanted. absurd (omega (arith, wanted));
+      reserve_copy = λ wanted. absurd (omega (arith, wanted));
+    }

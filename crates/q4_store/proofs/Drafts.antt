@@ -1,5 +1,5 @@
 -- The bytes of a new table.
-use Rattle.std.proofs.Common.{◌≡◌, ◌≢◌, ℕ, ◌*◌, ◌<◌, ◌≤◌, List, [], ◌∷◌, ◌++◌, All, None, length, replicate, refl, sym, ◌∙◌, ap, subst, arith, length-append}
+use Rattle.std.proofs.Common.{◌≡◌, ℕ, ◌*◌, ◌<◌, ◌≤◌, List, [], ◌∷◌, ◌++◌, All, None, length, replicate, refl, sym, ◌∙◌, ap, subst, arith, length-append}
 use Rattle.std.specs.Int.{w64, to_be_bytes}
 use Rattle.std.specs.List.{flat_map}
 use Rattle.std.proofs.lemmas.List.{append-nil, drop_all, drop_at}
@@ -11,15 +11,14 @@ use Rattle.q4_table.specs.TableState.{new_table}
 use Rattle.q4_table.specs.Valid.{IsColumns, IsMark, IsValidTable}
 use Rattle.q4_value.specs.Row.{Fits}
 use Rattle.q4_record.specs.Schema.{column_bytes, IsSchema}
-use Rattle.q4_record.specs.Side.{Side as IsSide}
+use Rattle.q4_record.specs.Side.{base_at, Side as IsSide}
 use Rattle.q4_record.specs.Written.{base_bytes, written, written_length, IsWritten}
 use Rattle.q4_record.proofs.WrittenSides.{written_side}
-use Rattle.q4_disk.specs.Images.{written as overwritten, Within}
+use Rattle.q4_disk.specs.Images.{written as overwritten}
 use Rattle.q4_disk.proofs.Ranges.{written_at}
 use Rattle.q4_disk.specs.declared.disk.Side.TheVariants.{A}
-use Rattle.q4_disk.specs.Told.{Told}
-use Rattle.q4_store.specs.Reading.{IsBehind}
-use Rattle.q4_store.specs.Parts.{IsBlank, IsFilled, opened}
+use Rattle.q4_store.specs.Parts.{IsBlank, opened}
+use Rattle.q4_store.specs.Device.{fill_calls}
 use Rattle.q4_store.specs.Looking.{header_bytes, IsDraft, draft_length}
 
 pub are_columns : (columns : List Column) → AreColumns columns → IsColumns columns
@@ -76,21 +75,19 @@ new_side columns base header is draft =
     subst (λ (l : List ℕ). IsSide columns l (new_table columns) 1 (draft_length columns)) (sym bytes) (subst (λ (n : ℕ). IsSide columns (written (new_table columns) 1 [] 0 []) (new_table columns) 1 n) len side)
 
 -- what is read of a blank side once the draft is written
-pub filled : (blank base header : List ℕ) → (b : IsBlank blank) → length header ≡ 20 → overwritten (overwritten blank 21 base) 1 header ≡ b.gate ∷ (header ++ base)
+filled : (blank base header : List ℕ) → (b : IsBlank blank) → length header ≡ 20 → overwritten (overwritten blank 21 base) 1 header ≡ b.gate ∷ (header ++ base)
 filled blank base header b twenty =
     ap (λ (l : List ℕ). overwritten (overwritten l 21 base) 1 header) (b.is ∙ sym (append-nil (b.gate ∷ replicate 20 0)))
     ∙ ap (λ (l : List ℕ). overwritten l 1 header) (written_at (b.gate ∷ replicate 20 0) [] base 21 refl ∙ ap (λ (l : List ℕ). (b.gate ∷ replicate 20 0) ++ l) (ap (λ (l : List ℕ). base ++ l) (drop_all (length base) [] (omega arith)) ∙ append-nil base))
     ∙ written_at (b.gate ∷ []) (replicate 20 0 ++ base) header 1 refl
     ∙ ap (λ (l : List ℕ). b.gate ∷ (header ++ l)) (drop_at (replicate 20 0) base (length header) (sym twenty))
 
-pub filled_as : (blank base handed header result : List ℕ) → (b : IsBlank blank) → length header ≡ 20 → handed ≡ base → result ≡ overwritten (overwritten blank 21 handed) 1 header → result ≡ b.gate ∷ (header ++ base)
-filled_as blank base handed header result b twenty same is = is ∙ ap (λ (l : List ℕ). overwritten (overwritten blank 21 l) 1 header) same ∙ filled blank base header b twenty
+-- which stands for the new table with an open gate
+pub draft_stands : (columns : List Column) (blank base handed header : List ℕ) → AreColumns columns → IsDraft columns base header → IsBlank blank → handed ≡ base → IsSide columns (opened (overwritten (overwritten blank 21 handed) 1 header)) (new_table columns) 1 (draft_length columns)
+draft_stands columns blank base handed header are draft b same =
+    let bytes : overwritten (overwritten blank 21 handed) 1 header ≡ b.gate ∷ (header ++ base) = ap (λ (l : List ℕ). overwritten (overwritten blank 21 l) 1 header) same ∙ filled blank base header b (ap length draft.header_is) in
+    subst (λ (l : List ℕ). IsSide columns l (new_table columns) 1 (draft_length columns)) (sym (ap opened bytes)) (new_side columns base header are draft)
 
-pub is_filled : (told : Told) (columns : List Column) (base header : List ℕ) (gate : ℕ) → AreColumns columns → IsDraft columns base header → gate ≢ 1 → told.bytes.a ≡ gate ∷ (header ++ base) → Within told.images (λ c. c.a ≡ told.bytes.a) → Within told.images (λ c. IsBehind 1 c.b)
-    → IsFilled told A columns (new_table columns) 1 (draft_length columns)
-is_filled told columns base header gate are draft closed is only behind = record {
-  shut = record { gate = gate; rest = header ++ base; closed = closed; is = is };
-  only = only;
-  stands = subst (λ (l : List ℕ). IsSide columns l (new_table columns) 1 (draft_length columns)) (sym (ap opened is)) (new_side columns base header are draft);
-  behind = behind;
-}
+-- the calls that write it
+pub draft_calls : (columns : List Column) (base handed header : List ℕ) → IsDraft columns base header → handed ≡ base → fill_calls A 21 handed header ≡ fill_calls A base_at (base_bytes (new_table columns) ++ 0 ∷ []) (header_bytes 1 (length (base_bytes (new_table columns))))
+draft_calls columns base handed header draft same = ap (λ (l : List ℕ). fill_calls A 21 l header) (same ∙ draft.base_is) ∙ ap (fill_calls A 21 (base_bytes (new_table columns) ++ 0 ∷ [])) draft.header_is

@@ -25,7 +25,7 @@ more_told front more (head.Open magic generation) long is = (
   is.2 ∙ sym (told_front 5 front more (omega (arith, long))),
 )
 more_told front more head.Shut long is = record { gate = is.gate; rest = is.rest ++ more; closed = is.closed; is = ap (λ (l : List ℕ). l ++ more) is.is }
-more_told front more head.Short long is = absurd (omega (arith, is, long))
+more_told front more head.Short long is = absurd (omega (arith, is.0, long))
 
 -- they tell all that a head tells
 pub head_whole : (bytes front : List ℕ) (h : Head) → front ≡ take base_at bytes → IsHead front h → IsHead bytes h
@@ -34,7 +34,10 @@ head_whole bytes front (head.Open magic generation) front_is is =
 head_whole bytes front head.Shut front_is is =
     let e : bytes ≡ is.gate ∷ (is.rest ++ drop base_at bytes) = sym (take-append-drop base_at bytes) ∙ ap (λ (l : List ℕ). l ++ drop base_at bytes) (sym front_is ∙ is.is) in
     record { gate = is.gate; rest = is.rest ++ drop base_at bytes; closed = is.closed; is = e }
-head_whole bytes front head.Short front_is is = omega (arith, is, ap length front_is, length-take base_at bytes)
+head_whole bytes front head.Short front_is is = (
+  omega (arith, is.0, ap length front_is, length-take base_at bytes),
+  λ shut. is.1 (record { gate = shut.gate; rest = take 20 shut.rest; closed = shut.closed; is = front_is ∙ ap (take base_at) shut.is }),
+)
 
 -- why bytes stand for no table, where they are those of the side
 pub fails_of : {T : Type 0} (r : Result T OpenFault) (honest : Bool) (columns : List Column) (front bytes : List ℕ) (side : Side) → (IsTrue honest → front ≡ bytes) → IfErr r (λ why. IsOpen front → LoadFails columns front side why)

@@ -16,3 +16,4 @@ pub mod Opened
 pub mod Apart
 pub mod Lengths
 pub mod Changes
+pub mod Runs

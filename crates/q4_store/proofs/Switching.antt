@@ -7,13 +7,20 @@ use Rattle.q4_table.specs.TableState.{TableState}
 use Rattle.q4_record.specs.Side.{generation_of, Side as IsSide}
 use Rattle.q4_disk.specs.declared.disk.Side.{Side}
 use Rattle.q4_disk.specs.Told.{Sides, Told}
-use Rattle.q4_disk.specs.Images.{on, other, Torn, Sided}
+use Rattle.q4_disk.specs.Images.{on, other, put, written, Torn, Sided, Within}
+use Rattle.q4_disk.specs.Time.{OtherStays}
 use Rattle.q4_disk.specs.Calls.{Wrote, Synced}
+use Rattle.q4_disk.specs.Laws.{on_put}
 use Rattle.q4_disk.proofs.Moments.{Along, began, wrote, synced}
 use Rattle.q4_disk.proofs.Ranges.{torn_byte}
 use Rattle.q4_store.specs.Reading.{IsBehind, Reads, ReadsAs}
 use Rattle.q4_store.specs.Parts.{IsShut, IsFilled, opened}
 use Rattle.q4_store.proofs.Idle.{shut_idle, idle_alike}
+use Rattle.q4_store.proofs.Lifting.{reads_current}
+
+-- what is read of a side after its gate was written, and synced
+pub gate_written : (side : Side) (old one two : Sides) → one ≡ put side (written (on side old) 0 (1 ∷ [])) old → two ≡ one → on side two ≡ opened (on side old)
+gate_written side old one two first same = ap (on side) same ∙ ap (on side) first ∙ on_put side (written (on side old) 0 (1 ∷ [])) old
 
 module _ (columns : List Column) (table : TableState) (generation len : ℕ) (side : Side) (old : Told) (f : IsFilled old side columns table generation len) where
   abbrev pub May : Sides → Type 0
@@ -27,8 +34,9 @@ module _ (columns : List Column) (table : TableState) (generation len : ℕ) (si
     pub gate : ℕ
     pub is : on side c ≡ gate ∷ f.shut.rest
 
-  pub gate_whole : (c : Sides) → AnyGate c → opened (on side c) ≡ opened (on side old.bytes)
-  gate_whole c any = ap opened any.is ∙ sym (ap opened f.shut.is)
+  -- with an open gate it is the whole table
+  pub gate_whole : (c : Sides) → AnyGate c → IsSide columns (opened (on side c)) table generation len
+  gate_whole c any = subst (λ (bytes : List ℕ). IsSide columns bytes table generation len) (ap opened f.shut.is ∙ sym (ap opened any.is)) f.stands
 
   told_generation : generation_of (opened (on side old.bytes)) ≡ generation
   told_generation = sym f.stands.stands.generation_is
@@ -68,3 +76,9 @@ module _ (columns : List Column) (table : TableState) (generation len : ℕ) (si
 
   pub switch_sync : {T E : Type 0} {result : Result T E} (mid new : Told) → Along old mid May AnyGate → new.honest ≡ mid.honest → (IsTrue mid.honest → Synced side result mid new) → Along old new May AnyGate
   switch_sync mid new so_far honest does = synced old mid new May AnyGate side so_far honest does any_reads
+
+  -- the gate is open in each image
+  pub switched : (new : Told) → on side new.bytes ≡ opened (on side old.bytes) → Within new.images (λ c. on side c ≡ on side new.bytes) → OtherStays side old new → Within new.images (λ c. Reads columns c table generation)
+  switched new is only stays c left =
+      let from = stays.each c left in
+      reads_current columns side c table generation len (subst (λ (bytes : List ℕ). IsSide columns bytes table generation len) (sym (only c left ∙ is)) f.stands) (subst (IsBehind generation) (sym from.2) (f.behind from.0 from.1))

@@ -7,3 +7,4 @@ pub mod Store
 pub mod Waiting
 pub mod Opening
 pub mod Looking
+pub mod Device

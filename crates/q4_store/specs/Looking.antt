@@ -45,12 +45,12 @@ IsStill told = Within told.images (λ c. c ≡ told.bytes)
 abbrev pub IsHead : List ℕ → Head → Type 0
 IsHead bytes (head.Open magic generation) = IsOpen bytes × (IsTrue magic ↔ HasMagic bytes) × (generation ≡ generation_of bytes)
 IsHead bytes head.Shut = IsShut bytes
-IsHead bytes head.Short = length bytes < base_at
+IsHead bytes head.Short = (length bytes < base_at) × (IsShut bytes → ⊥)
 
 -- which side counts, or that neither is open, and which other gates are there and closed
 abbrev pub IsChoice : Sides → Choice → Type 0
-IsChoice sides (choice.Current side known) = IsCurrent side sides × HasMagic (on side sides) × (known ≡ true → IsShut (on (other side) sides))
-IsChoice sides (choice.Neither a b) = (IsOpen sides.a → ⊥) × (IsOpen sides.b → ⊥) × IsReady a A sides × (b ≡ true → IsShut sides.b)
+IsChoice sides (choice.Current side known) = IsCurrent side sides × HasMagic (on side sides) × ((known ≡ true) ↔ IsShut (on (other side) sides))
+IsChoice sides (choice.Neither a b) = (IsOpen sides.a → ⊥) × (IsOpen sides.b → ⊥) × IsReady a A sides × ((a ≡ true) ↔ IsShut sides.a) × ((b ≡ true) ↔ IsShut sides.b)
 
 -- or why that is unclear
 abbrev pub IsNoChoice : Sides → OpenFault → Type 0

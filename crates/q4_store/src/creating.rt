@@ -10,8 +10,9 @@ ghost use Rattle.q4_disk.specs.Calls.{CountsFault};
 ghost use Rattle.q4_store.specs.Reading.{ReadsAs};
 ghost use Rattle.q4_store.specs.Store.{IsSettled};
 ghost use Rattle.q4_store.specs.Looking.{StartsNew, IsDraft, header_bytes, draft_length};
+ghost use Rattle.q4_store.specs.Device.{Makes, create_calls};
 
-use crate::parts::{blank, close, fill, switch};
+use crate::parts::{fill, prepare, switch};
 use q4_disk::{Disk, DiskFailed, Side};
 use q4_record::{put_next, put_schema};
 use q4_value::{Bytes, Columns, NoMemory};
@@ -64,9 +65,9 @@ pub(crate) fn create<D: Disk>(disk: &mut D, known: bool, draft: &Draft) -> Resul
     ensures done { OnOk result ((columns : List Column) → AreColumns columns → IsDraft columns draft.now.base draft.now.header → IsTrue (D.told disk.old).honest
         → IsSettled (D.told disk.new) A (new_table columns) 1 (draft_length columns)) }
     ensures other { IsTrue (D.told disk.old).honest → OtherStays A (D.told disk.old) (D.told disk.new) }
+    ensures device { (columns : List Column) → IsDraft columns draft.now.base draft.now.header → Makes D.told (create_calls columns known) result disk.old disk.new }
 {
-    close(disk, Side::A, known)?;
-    blank(disk, Side::A)?;
+    prepare(disk, Side::A, known)?;
     fill(disk, Side::A, BASE_AT, draft.base.as_slice(), &draft.header)?;
     switch(disk, Side::A)?;
     Ok(())

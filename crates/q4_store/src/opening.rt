@@ -1,4 +1,4 @@
-ghost use Rattle.std.specs.Prelude.{◌≡◌, ◌≤◌, ◌*◌, ℕ, List, [], true, IsTrue, IfOk, IfErr, OnOk, vec_capacity};
+ghost use Rattle.std.specs.Prelude.{◌≡◌, ◌≤◌, ◌*◌, ◌↔◌, ℕ, List, [], true, IsTrue, IfOk, IfErr, OnOk, vec_capacity};
 ghost use Rattle.q4_value.specs.Names.{AreColumns};
 ghost use Rattle.q4_record.specs.Side.{Side as IsSide};
 ghost use Rattle.q4_disk.specs.Told.{Sides, Told};
@@ -54,6 +54,7 @@ pub(crate) fn find<D: Disk>(
     ensures side { IfOk result (λ found. IsTrue (D.told disk.old).honest → IsChosen (D.told disk.old).bytes found.side) }
     ensures settled { IfOk result (λ found. IsTrue (D.told disk.old).honest → IsSettled (D.told disk.new) found.side found.table found.generation found.end) }
     ensures known { IfOk result (λ found. IsTrue (D.told disk.old).honest → found.known ≡ true → Within (D.told disk.new).images (λ c. IsShut (on (other found.side) c))) }
+    ensures known_is { IfOk result (λ found. IsTrue (D.told disk.old).honest → (found.known ≡ true) ↔ IsShut (on (other found.side) (D.told disk.old).bytes)) }
     ensures fails { IfErr result (λ fault. IsTrue (D.told disk.old).honest → OpenFails columns.now (D.told disk.old).bytes fault) }
 {
     let Ok((a, b)) = look(disk) else {
@@ -84,6 +85,7 @@ fn find_by<D: Disk>(
     ensures side { IfOk result (λ found. IsTrue (D.told disk.old).honest → IsChosen (D.told disk.old).bytes found.side) }
     ensures settled { IfOk result (λ found. IsTrue (D.told disk.old).honest → IsSettled (D.told disk.new) found.side found.table found.generation found.end) }
     ensures known { IfOk result (λ found. IsTrue (D.told disk.old).honest → found.known ≡ true → Within (D.told disk.new).images (λ c. IsShut (on (other found.side) c))) }
+    ensures known_is { IfOk result (λ found. IsTrue (D.told disk.old).honest → (found.known ≡ true) ↔ IsShut (on (other found.side) (D.told disk.old).bytes)) }
     ensures fails { IfErr result (λ fault. IsTrue (D.told disk.old).honest → OpenFails columns.now (D.told disk.old).bytes fault) }
 {
     match choose(a, b) {
@@ -142,6 +144,7 @@ fn find_current<D: Disk>(
     ensures side { IfOk result (λ found. IsTrue (D.told disk.old).honest → IsChosen (D.told disk.old).bytes found.side) }
     ensures settled { IfOk result (λ found. IsTrue (D.told disk.old).honest → IsSettled (D.told disk.new) found.side found.table found.generation found.end) }
     ensures known { IfOk result (λ found. IsTrue (D.told disk.old).honest → found.known ≡ true → Within (D.told disk.new).images (λ c. IsShut (on (other found.side) c))) }
+    ensures known_is { IfOk result (λ found. IsTrue (D.told disk.old).honest → (found.known ≡ true) ↔ IsShut (on (other found.side) (D.told disk.old).bytes)) }
     ensures fails { IfErr result (λ fault. IsTrue (D.told disk.old).honest → OpenFails columns.now (D.told disk.old).bytes fault) }
 {
     match load(alloc, disk, side, columns) {
@@ -176,6 +179,7 @@ fn make_new<D: Disk>(
     ensures side { IfOk result (λ found. IsTrue (D.told disk.old).honest → IsChosen (D.told disk.old).bytes found.side) }
     ensures settled { IfOk result (λ found. IsTrue (D.told disk.old).honest → IsSettled (D.told disk.new) found.side found.table found.generation found.end) }
     ensures known { IfOk result (λ found. IsTrue (D.told disk.old).honest → found.known ≡ true → Within (D.told disk.new).images (λ c. IsShut (on (other found.side) c))) }
+    ensures known_is { IfOk result (λ found. IsTrue (D.told disk.old).honest → (found.known ≡ true) ↔ IsShut (on (other found.side) (D.told disk.old).bytes)) }
     ensures fails { IfErr result (λ fault. IsTrue (D.told disk.old).honest → OpenFails columns.now (D.told disk.old).bytes fault) }
 {
     let Ok(draft) = make_draft(alloc, columns) else {

@@ -4,12 +4,14 @@
 ghost use Rattle.std.specs.Prelude.{◌≡◌, ◌+◌, ◌≤◌, ◌⊎◌, ℕ, List, [], ◌∷◌, IsTrue, OnOk, length};
 ghost use Rattle.q4_value.specs.declared.column.Column.{Column};
 ghost use Rattle.q4_table.specs.TableState.{TableState};
+ghost use Rattle.q4_record.specs.Side.{Side as IsSide};
 ghost use Rattle.q4_disk.specs.Told.{Sides, Told};
-ghost use Rattle.q4_disk.specs.Images.{on, size, written, Within};
+ghost use Rattle.q4_disk.specs.Images.{on, other, size, written, Within};
 ghost use Rattle.q4_disk.specs.Time.{LeavesOnly, OtherStays};
 ghost use Rattle.q4_disk.specs.Calls.{CountsFault};
-ghost use Rattle.q4_store.specs.Reading.{Reads, ReadsAs};
+ghost use Rattle.q4_store.specs.Reading.{Reads, ReadsAs, IsBehind};
 ghost use Rattle.q4_store.specs.Parts.{IsShut, IsBlank, IsReady, IsFilled, opened};
+ghost use Rattle.q4_store.specs.Device.{Makes, close_calls, blank_calls, prepare_calls, fill_calls, switch_calls};
 
 use q4_disk::{Disk, DiskFailed, Side};
 
@@ -23,6 +25,7 @@ pub(crate) fn close<D: Disk>(disk: &mut D, side: Side, known: bool) -> Result<()
     ensures shut { OnOk result (IsTrue (D.told disk.old).honest → Within (D.told disk.old).images (IsReady known side)
         → Within (D.told disk.new).images (λ c. IsShut (on side c))) }
     ensures other { IsTrue (D.told disk.old).honest → OtherStays side (D.told disk.old) (D.told disk.new) }
+    ensures device { Makes D.told (close_calls side known) result disk.old disk.new }
 {
     if known {
         return Ok(());
@@ -45,14 +48,34 @@ pub(crate) fn blank<D: Disk>(disk: &mut D, side: Side) -> Result<(), DiskFailed>
         → Within (D.told disk.new).images (λ c. IsShut (on side c)) }
     ensures bytes { OnOk result (IsTrue (D.told disk.old).honest → IsShut (on side (D.told disk.old).bytes) → IsBlank (on side (D.told disk.new).bytes)) }
     ensures other { IsTrue (D.told disk.old).honest → OtherStays side (D.told disk.old) (D.told disk.new) }
+    ensures device { Makes D.told (blank_calls side) result disk.old disk.new }
 {
     disk.cut(side, 1)?;
     disk.write(side, 1, &[0; 20])?;
     Ok(())
 }
 
+/// Makes a side ready for a table: closes its gate and writes zeros behind it, by at most four device calls.
+pub(crate) fn prepare<D: Disk>(disk: &mut D, side: Side, known: bool) -> Result<(), DiskFailed>
+    requires { IsTrue (D.told disk.old).honest → Within (D.told disk.old).images (IsReady known side) }
+    ensures honest { (D.told disk.new).honest ≡ (D.told disk.old).honest }
+    ensures faults { CountsFault result (D.told disk.old).faults (D.told disk.new).faults }
+    // At each moment inside it each image reads as one that there was, and so, whether it fails or not, behind it.
+    ensures any_moment { (columns : List Column) → IsTrue (D.told disk.old).honest → LeavesOnly (D.told disk.old) (D.told disk.new) (ReadsAs columns (D.told disk.old).images) }
+    ensures reads { (columns : List Column) → IsTrue (D.told disk.old).honest → Within (D.told disk.new).images (ReadsAs columns (D.told disk.old).images) }
+    // After success the gate is closed in each image, and what is read is that gate and zeros.
+    ensures shut { OnOk result (IsTrue (D.told disk.old).honest → Within (D.told disk.new).images (λ c. IsShut (on side c))) }
+    ensures blank { OnOk result (IsTrue (D.told disk.old).honest → IsBlank (on side (D.told disk.new).bytes)) }
+    ensures other { IsTrue (D.told disk.old).honest → OtherStays side (D.told disk.old) (D.told disk.new) }
+    ensures device { Makes D.told (prepare_calls side known) result disk.old disk.new }
+{
+    close(disk, side, known)?;
+    blank(disk, side)?;
+    Ok(())
+}
+
 /// Writes what is left of a table and the closing gate, and then the header, behind a gate that is closed, and syncs.
-/// The gate stays closed, whether it fails or not.
+/// The gate stays closed, whether it fails or not. It makes at most three device calls.
 pub(crate) fn fill<D: Disk>(
     disk: &mut D,
     side: Side,
@@ -71,7 +94,13 @@ pub(crate) fn fill<D: Disk>(
         → Within (D.told disk.new).images (λ c. IsShut (on side c)) }
     ensures bytes { OnOk result (IsTrue (D.told disk.old).honest → on side (D.told disk.new).bytes ≡ written (written (on side (D.told disk.old).bytes) at last.now) 1 header.now) }
     ensures only { OnOk result (IsTrue (D.told disk.old).honest → Within (D.told disk.new).images (λ c. on side c ≡ on side (D.told disk.new).bytes)) }
+    // After success a table is there but for its gate, where it is with an open gate what the bytes written stand for, and where the
+    // other side is behind it.
+    ensures filled { OnOk result ((columns : List Column) (table : TableState) (generation len : ℕ) → IsTrue (D.told disk.old).honest → Within (D.told disk.old).images (λ c. IsShut (on side c))
+        → IsSide columns (opened (written (written (on side (D.told disk.old).bytes) at last.now) 1 header.now)) table generation len → Within (D.told disk.old).images (λ c. IsBehind generation (on (other side) c))
+        → IsFilled (D.told disk.new) side columns table generation len) }
     ensures other { IsTrue (D.told disk.old).honest → OtherStays side (D.told disk.old) (D.told disk.new) }
+    ensures device { Makes D.told (fill_calls side at last.now header.now) result disk.old disk.new }
 {
     disk.write(side, at, last)?;
     disk.write(side, 1, header)?;
@@ -79,7 +108,7 @@ pub(crate) fn fill<D: Disk>(
     Ok(())
 }
 
-/// Opens the gate of a side, and syncs.
+/// Opens the gate of a side, and syncs, by at most two device calls.
 pub(crate) fn switch<D: Disk>(disk: &mut D, side: Side) -> Result<(), DiskFailed>
     ensures honest { (D.told disk.new).honest ≡ (D.told disk.old).honest }
     ensures faults { CountsFault result (D.told disk.old).faults (D.told disk.new).faults }
@@ -87,13 +116,18 @@ pub(crate) fn switch<D: Disk>(disk: &mut D, side: Side) -> Result<(), DiskFailed
     ensures any_moment { (columns : List Column) (table : TableState) (generation len : ℕ) → IsTrue (D.told disk.old).honest
         → IsFilled (D.told disk.old) side columns table generation len
         → LeavesOnly (D.told disk.old) (D.told disk.new) (λ c. ReadsAs columns (D.told disk.old).images c ⊎ Reads columns c table generation) }
-    // Whether it fails or not, the side is whole in each image, but for its gate.
+    // After success each image reads as the table.
+    ensures reads { OnOk result ((columns : List Column) (table : TableState) (generation len : ℕ) → IsTrue (D.told disk.old).honest
+        → IsFilled (D.told disk.old) side columns table generation len
+        → Within (D.told disk.new).images (λ c. Reads columns c table generation)) }
+    // Whether it fails or not, with an open gate the side is the whole table in each image.
     ensures whole { (columns : List Column) (table : TableState) (generation len : ℕ) → IsTrue (D.told disk.old).honest
         → IsFilled (D.told disk.old) side columns table generation len
-        → Within (D.told disk.new).images (λ c. opened (on side c) ≡ opened (on side (D.told disk.old).bytes)) }
+        → Within (D.told disk.new).images (λ c. IsSide columns (opened (on side c)) table generation len) }
     ensures bytes { OnOk result (IsTrue (D.told disk.old).honest → on side (D.told disk.new).bytes ≡ opened (on side (D.told disk.old).bytes)) }
     ensures only { OnOk result (IsTrue (D.told disk.old).honest → Within (D.told disk.new).images (λ c. on side c ≡ on side (D.told disk.new).bytes)) }
     ensures other { IsTrue (D.told disk.old).honest → OtherStays side (D.told disk.old) (D.told disk.new) }
+    ensures device { Makes D.told (switch_calls side) result disk.old disk.new }
 {
     disk.write(side, 0, &[1])?;
     disk.sync(side)?; // the open gate

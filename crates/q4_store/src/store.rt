@@ -4,13 +4,15 @@ ghost use Rattle.q4_value.specs.Row.{IsValue};
 ghost use Rattle.q4_record.specs.Record.{record_bytes};
 ghost use Rattle.q4_record.specs.Side.{side_limit};
 ghost use Rattle.q4_disk.specs.Told.{Sides, Told};
-ghost use Rattle.q4_disk.specs.Images.{on, written};
+ghost use Rattle.q4_disk.specs.Images.{on, other, written};
 ghost use Rattle.q4_disk.specs.Time.{LeavesOnly};
 ghost use Rattle.q4_disk.specs.Calls.{bump};
 ghost use Rattle.q4_store.specs.Reading.{Reads, ReadsAs};
+ghost use Rattle.q4_store.specs.Parts.{IsShut};
 ghost use Rattle.q4_store.specs.Looking.{OnlyReads, HasOpen};
 ghost use Rattle.q4_store.specs.Opening.{IsChosen, OpenFails, CountsOpen};
 ghost use Rattle.q4_store.specs.Commit.{sealed};
+ghost use Rattle.q4_store.specs.Device.{Makes, commit_calls};
 ghost use Rattle.q4_store.specs.Content.{Content, row_added, row_ended, with_change, all_committed, IsPrefix};
 ghost use Rattle.q4_store.specs.Lengths.{change_size, waiting_size, change_cost};
 ghost use Rattle.q4_store.specs.Store.{StandsFor, TakesRow, HasRow, IsOver, IsRefused, length_of, cost_of, pending_length, batch_size};
@@ -75,6 +77,8 @@ impl<D: Disk> Store<D> {
         // Its side is the one that counts, or side A where neither is open.
         ensures side { IfOk result (λ opened. IsTrue (D.told disk).honest → IsChosen (D.told disk).bytes opened.0.side) }
         ensures stands { IfOk result (λ opened. StandsFor D.told opened.0 (record { committed = opened.1; pending = [] })) }
+        // Whether the gate of the other side is there and closed is known exactly.
+        ensures known { IfOk result (λ opened. IsTrue (D.told disk).honest → (opened.0.known ≡ true) ↔ IsShut (on (other opened.0.side) (D.told disk).bytes)) }
         ensures fresh { IfOk result (λ opened. (opened.0.failed ≡ false) × (opened.0.records ≡ []) × (opened.0.reserved ≡ 0) × (opened.1.columns ≡ def.now.columns)) }
         // Whatever the disk tells.
         ensures generation { IfOk result (λ opened. (1 ≤ opened.0.generation) × (opened.0.generation ≤ 2 ^ 62)) }
@@ -283,6 +287,9 @@ impl<D: Disk> Store<D> {
         ensures calm { OnOk result ((D.told self.new.disk).faults ≡ (D.told self.old.disk).faults) }
         ensures again { self.old.failed ≡ true → IsErr result × (self.new ≡ self.old) }
         ensures nothing { self.old.failed ≡ false → self.old.records ≡ [] → IsOk result × (self.new ≡ self.old) }
+        // Its device calls, in their order.
+        ensures device { self.old.failed ≡ false → self.old.records ≢ []
+            → Makes D.told (commit_calls self.old.side self.old.end (sealed self.old.records)) result self.old.disk self.new.disk }
         ensures calls { (D.told self.new.disk).calls ≤ (D.told self.old.disk).calls + 4 }
         ensures writes { (D.told self.new.disk).writes ≤ (D.told self.old.disk).writes + 2 }
         ensures syncs { (D.told self.new.disk).syncs ≤ (D.told self.old.disk).syncs + 2 }

@@ -1,8 +1,10 @@
-use Rattle.std.proofs.Common.{◌≡◌, ℕ, ◌+◌, ◌-◌, List, [], ◌∷◌, length, IsTrue, sym, ◌∙◌, ap, arith}
+use Rattle.std.proofs.Common.{◌≡◌, ℕ, ◌+◌, ◌-◌, List, [], ◌∷◌, length, IsTrue, sym, ◌∙◌, ap, inl, inr, refl, arith}
 use Rattle.q4_disk.specs.Images.{on, size}
 use Rattle.q4_disk.proofs.Moments.{Along, other_stepped, other_synced, other_then}
 use Rattle.q4_store.specs.Commit.{EndsBehind, MayHaveBatch, grown}
-use Rattle.q4_store.proofs.Filling.{as_long}
+use Rattle.q4_store.specs.Device.{commit_calls}
+use Rattle.q4_store.proofs.Runs.{broke}
+use Rattle.q4_store.proofs.Filling.{as_long, long_landed}
 use Rattle.q4_store.proofs.Landing.{Is, Behind, Staged, Gated, Done, started, write_behind, read_behind, sync_fails, sync_behind, write_gate, read_gate, gate_sync, is_done, landed}
 use Rattle.q4_store.proofs.committing.commit_batch.Given as given
 use Rattle.q4_store.proofs.committing.commit_batch.Goals as goal
@@ -93,3 +95,57 @@ returns-clause-bytes g c h =
     let h2 = c.sync.ensures.call.counted.honest ∙ h1 in
     let h3 = c.write-2.ensures.call.counted.honest ∙ h2 in
     landed c.args.side _ _ _ _ _ c.args.end (c.args.end - 1) c.args.batch.now (1 ∷ []) (c.in_ok-write.ensures.write h).done (c.in_ok-sync.ensures.sync h1).bytes (c.in_ok-write-2.ensures.write h2).done (c.in_ok-sync-2.ensures.sync h3).bytes
+
+pub returns-clause-long : goal.returns-clause-long
+returns-clause-long g c h =
+    let h1 = c.write.ensures.call.counted.honest ∙ h in
+    let h2 = c.sync.ensures.call.counted.honest ∙ h1 in
+    let h3 = c.write-2.ensures.call.counted.honest ∙ h2 in
+    let side = c.args.side in
+    let is = landed side _ _ _ _ _ c.args.end (c.args.end - 1) c.args.batch.now (1 ∷ []) (c.in_ok-write.ensures.write h).done (c.in_ok-sync.ensures.sync h1).bytes (c.in_ok-write-2.ensures.write h2).done (c.in_ok-sync-2.ensures.sync h3).bytes in
+    long_landed (on side (g.D.Disk.told c.args.disk.now).bytes) (on side (g.D.Disk.told c.sync-2.new.self).bytes) c.args.end c.args.batch.now c.requires.gate (c.requires.place h) is
+
+pub returns-in_err-write-clause-device : goal.returns-in_err-write-clause-device
+returns-in_err-write-clause-device g c = broke g.D.Disk.told (commit_calls c.args.side c.args.end c.args.batch.now) c.from_residual.result _ _ c.from_residual.ensures.0 (inl (c.in_err-write.ensures.call, c.in_err-write.ensures.write))
+
+pub returns-in_err-sync-clause-device : goal.returns-in_err-sync-clause-device
+returns-in_err-sync-clause-device g c =
+    broke g.D.Disk.told (commit_calls c.args.side c.args.end c.args.batch.now) c.from_residual-in_err-sync.result _ _ c.from_residual-in_err-sync.ensures.0
+    (inr (c.write.new.self, (c.in_ok-write.ensures.call, c.in_ok-write.ensures.write), inl (c.in_err-sync.ensures.call, c.in_err-sync.ensures.sync)))
+
+pub returns-in_err-write-2-clause-device : goal.returns-in_err-write-2-clause-device
+returns-in_err-write-2-clause-device g c =
+    broke g.D.Disk.told (commit_calls c.args.side c.args.end c.args.batch.now) c.from_residual-in_err-write-2.result _ _ c.from_residual-in_err-write-2.ensures.0
+    (inr (
+      c.write.new.self,
+      (c.in_ok-write.ensures.call, c.in_ok-write.ensures.write),
+      inr (c.sync.new.self, (c.in_ok-sync.ensures.call, c.in_ok-sync.ensures.sync), inl (c.in_err-write-2.ensures.call, c.in_err-write-2.ensures.write)),
+    ))
+
+pub returns-in_err-sync-2-clause-device : goal.returns-in_err-sync-2-clause-device
+returns-in_err-sync-2-clause-device g c =
+    broke g.D.Disk.told (commit_calls c.args.side c.args.end c.args.batch.now) c.from_residual-in_err-sync-2.result _ _ c.from_residual-in_err-sync-2.ensures.0
+    (inr (
+      c.write.new.self,
+      (c.in_ok-write.ensures.call, c.in_ok-write.ensures.write),
+      inr (
+        c.sync.new.self,
+        (c.in_ok-sync.ensures.call, c.in_ok-sync.ensures.sync),
+        inr (c.write-2.new.self, (c.in_ok-write-2.ensures.call, c.in_ok-write-2.ensures.write), inl (c.in_err-sync-2.ensures.call, c.in_err-sync-2.ensures.sync)),
+      ),
+    ))
+
+pub returns-clause-device : goal.returns-clause-device
+returns-clause-device g c = (
+  c.write.new.self,
+  (c.in_ok-write.ensures.call, c.in_ok-write.ensures.write),
+  (
+    c.sync.new.self,
+    (c.in_ok-sync.ensures.call, c.in_ok-sync.ensures.sync),
+    (
+      c.write-2.new.self,
+      (c.in_ok-write-2.ensures.call, c.in_ok-write-2.ensures.write),
+      (c.sync-2.new.self, (c.in_ok-sync-2.ensures.call, c.in_ok-sync-2.ensures.sync), refl),
+    ),
+  ),
+)

@@ -1,4 +1,4 @@
-use Rattle.std.proofs.Common.{◌≡◌, true, sym, ◌∙◌, subst}
+use Rattle.std.proofs.Common.{◌≡◌, ◌↔◌, true, sym, ◌∙◌, subst}
 use Rattle.q4_disk.specs.Told.{Sides}
 use Rattle.q4_disk.specs.Images.{on, other, Within}
 use Rattle.q4_disk.proofs.Moments.{weaker}
@@ -33,6 +33,10 @@ pub returns-clause-rests : goal.returns-clause-rests
 returns-clause-rests g c h some =
     let rests = c.look.ensures.rests h in
     reads_on (g.D.Disk.told c.args.disk.now) _ _ rests c.look.ensures.writes (c.find_by.ensures.rests (c.look.ensures.honest ∙ h) (subst HasOpen (sym rests.bytes) some))
+
+pub returns-clause-known_is : goal.returns-clause-known_is
+returns-clause-known_is g c =
+    ok_still c.find_by.result _ _ (λ (s : Sides) found. (found.known ≡ true) ↔ IsShut (on (other found.side) s)) _ _ c.look.ensures.honest (λ h. (c.look.ensures.rests h).bytes) c.find_by.ensures.known_is
 
 pub returns-clause-known : goal.returns-clause-known
 returns-clause-known g c =

@@ -13,3 +13,6 @@ returns-in-Err-clause-fails g c h =
 
 pub returns-in-Ok-clause-side : goal.returns-in-Ok-clause-side
 returns-in-Ok-clause-side g c h = inl (c.requires.chosen h).0
+
+pub returns-in-Ok-clause-reads : goal.returns-in-Ok-clause-reads
+returns-in-Ok-clause-reads g c h = inl (record { side = c.args.side; len = c.in-Ok.loaded.end; current = (c.requires.chosen h).0; stands = c.in-Ok.ensures.loaded h })

@@ -1,8 +1,10 @@
-use Rattle.std.proofs.Common.{List, [], replicate, IsTrue, arith}
+use Rattle.std.proofs.Common.{List, [], replicate, refl, inl, inr, IsTrue, arith}
 use Rattle.q4_value.specs.declared.column.Column.{Column}
 use Rattle.q4_disk.specs.Images.{Within}
 use Rattle.q4_disk.proofs.Moments.{Along, other_stepped}
 use Rattle.q4_store.specs.Reading.{ReadsAs}
+use Rattle.q4_store.specs.Device.{blank_calls}
+use Rattle.q4_store.proofs.Runs.{broke}
 use Rattle.q4_store.proofs.Idle.{Beside, Shut, shut_idle, torn_late, cut_late, idle_start, idle_write, idle_cut}
 use Rattle.q4_store.proofs.parts.blank.Given as given
 use Rattle.q4_store.proofs.parts.blank.Goals as goal
@@ -43,3 +45,14 @@ returns-clause-any_moment g c columns h shut = (after_write g columns (goal.at.r
 
 pub returns-clause-shut : goal.returns-clause-shut
 returns-clause-shut g c h shut d left = ((after_write g [] (goal.at.returns-clause-shut g c).After-write h shut).now d left).here
+
+pub returns-in_err-cut-clause-device : goal.returns-in_err-cut-clause-device
+returns-in_err-cut-clause-device g c = broke g.D.Disk.told (blank_calls c.args.side) c.from_residual.result _ _ c.from_residual.ensures.0 (inl (c.in_err-cut.ensures.call, c.in_err-cut.ensures.cut))
+
+pub returns-in_err-write-clause-device : goal.returns-in_err-write-clause-device
+returns-in_err-write-clause-device g c =
+    broke g.D.Disk.told (blank_calls c.args.side) c.from_residual-in_err-write.result _ _ c.from_residual-in_err-write.ensures.0
+    (inr (c.cut.new.self, (c.in_ok-cut.ensures.call, c.in_ok-cut.ensures.cut), inl (c.in_err-write.ensures.call, c.in_err-write.ensures.write)))
+
+pub returns-clause-device : goal.returns-clause-device
+returns-clause-device g c = (c.cut.new.self, (c.in_ok-cut.ensures.call, c.in_ok-cut.ensures.cut), (c.write.new.self, (c.in_ok-write.ensures.call, c.in_ok-write.ensures.write), refl))

@@ -1,9 +1,11 @@
-use Rattle.std.proofs.Common.{List, [], ◌∷◌, IsTrue, ◌∙◌, subst}
+use Rattle.std.proofs.Common.{List, [], ◌∷◌, IsTrue, false, refl, sym, ◌∙◌, subst, inl, inr}
 use Rattle.q4_value.specs.declared.column.Column.{Column}
 use Rattle.q4_disk.specs.Images.{Within}
 use Rattle.q4_disk.proofs.Moments.{Along, other_stepped, other_synced, other_then}
 use Rattle.q4_store.specs.Reading.{ReadsAs}
 use Rattle.q4_store.specs.Parts.{IsSpare, IsReady}
+use Rattle.q4_store.specs.Device.{Makes, AllMade, close_calls}
+use Rattle.q4_store.proofs.Runs.{broke}
 use Rattle.q4_store.proofs.Idle.{Beside, spare_idle, ready_idle, torn_spare, closed_shut, idle_start, idle_write, idle_sync}
 use Rattle.q4_store.proofs.parts.close.Given as given
 use Rattle.q4_store.proofs.parts.close.Goals as goal
@@ -46,3 +48,22 @@ pub returns-clause-other : goal.returns-clause-other
 returns-clause-other g c h =
     let h1 = c.write.ensures.call.counted.honest ∙ h in
     other_then (other_stepped (c.write.ensures.write h)) (other_synced (c.sync.ensures.sync h1))
+
+pub returns-then-known-clause-device : goal.returns-then-known-clause-device
+returns-then-known-clause-device g c = subst (λ known. AllMade g.D.Disk.told (close_calls c.args.side known) c.args.disk.now c.args.disk.now) (sym c.if-known.true) refl
+
+pub returns-in_err-write-clause-device : goal.returns-in_err-write-clause-device
+returns-in_err-write-clause-device g c =
+    subst (λ known. Makes g.D.Disk.told (close_calls c.args.side known) c.from_residual.result c.args.disk.now c.write.new.self) (sym c.if-known.false)
+    (broke g.D.Disk.told (close_calls c.args.side false) c.from_residual.result _ _ c.from_residual.ensures.0 (inl (c.in_err-write.ensures.call, c.in_err-write.ensures.write)))
+
+pub returns-in_err-sync-clause-device : goal.returns-in_err-sync-clause-device
+returns-in_err-sync-clause-device g c =
+    subst (λ known. Makes g.D.Disk.told (close_calls c.args.side known) c.from_residual-in_err-sync.result c.args.disk.now c.sync.new.self) (sym c.if-known.false)
+    (broke g.D.Disk.told (close_calls c.args.side false) c.from_residual-in_err-sync.result _ _ c.from_residual-in_err-sync.ensures.0
+    (inr (c.write.new.self, (c.in_ok-write.ensures.call, c.in_ok-write.ensures.write), inl (c.in_err-sync.ensures.call, c.in_err-sync.ensures.sync))))
+
+pub returns-clause-device : goal.returns-clause-device
+returns-clause-device g c =
+    subst (λ known. AllMade g.D.Disk.told (close_calls c.args.side known) c.args.disk.now c.sync.new.self) (sym c.if-known.false)
+    (c.write.new.self, (c.in_ok-write.ensures.call, c.in_ok-write.ensures.write), (c.sync.new.self, (c.in_ok-sync.ensures.call, c.in_ok-sync.ensures.sync), refl))

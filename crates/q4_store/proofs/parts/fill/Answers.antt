@@ -1,10 +1,12 @@
-use Rattle.std.proofs.Common.{List, [], IsTrue, sym, ◌∙◌, arith}
+use Rattle.std.proofs.Common.{List, [], IsTrue, refl, sym, ◌∙◌, ap, inl, inr, arith}
 use Rattle.q4_value.specs.declared.column.Column.{Column}
-use Rattle.q4_disk.specs.Images.{Within}
+use Rattle.q4_disk.specs.Images.{on, written, Within}
 use Rattle.q4_disk.proofs.Moments.{Along, other_stepped, other_synced, other_then}
 use Rattle.q4_store.specs.Reading.{ReadsAs}
+use Rattle.q4_store.specs.Device.{fill_calls}
+use Rattle.q4_store.proofs.Runs.{broke}
 use Rattle.q4_store.proofs.Idle.{Beside, Shut, shut_idle, torn_late, idle_start, idle_write, idle_sync}
-use Rattle.q4_store.proofs.Filling.{long_written}
+use Rattle.q4_store.proofs.Filling.{long_written, twice_written, filled_with}
 use Rattle.q4_store.proofs.parts.fill.Given as given
 use Rattle.q4_store.proofs.parts.fill.Goals as goal
 use Rattle.q4_store.proofs.parts.fill.Goals.{After-write, After-write-2, After-sync}
@@ -75,3 +77,39 @@ returns-clause-other g c h =
     let h1 = c.write.ensures.call.counted.honest ∙ h in
     let h2 = c.write-2.ensures.call.counted.honest ∙ h1 in
     other_then (other_then (other_stepped (c.write.ensures.write h)) (other_stepped (c.write-2.ensures.write h1))) (other_synced (c.sync.ensures.sync h2))
+
+pub returns-in_err-write-clause-device : goal.returns-in_err-write-clause-device
+returns-in_err-write-clause-device g c = broke g.D.Disk.told (fill_calls c.args.side c.args.at c.args.last.now c.args.header.now) c.from_residual.result _ _ c.from_residual.ensures.0 (inl (c.in_err-write.ensures.call, c.in_err-write.ensures.write))
+
+pub returns-in_err-write-2-clause-device : goal.returns-in_err-write-2-clause-device
+returns-in_err-write-2-clause-device g c =
+    broke g.D.Disk.told (fill_calls c.args.side c.args.at c.args.last.now c.args.header.now) c.from_residual-in_err-write-2.result _ _ c.from_residual-in_err-write-2.ensures.0
+    (inr (c.write.new.self, (c.in_ok-write.ensures.call, c.in_ok-write.ensures.write), inl (c.in_err-write-2.ensures.call, c.in_err-write-2.ensures.write)))
+
+pub returns-in_err-sync-clause-device : goal.returns-in_err-sync-clause-device
+returns-in_err-sync-clause-device g c =
+    broke g.D.Disk.told (fill_calls c.args.side c.args.at c.args.last.now c.args.header.now) c.from_residual-in_err-sync.result _ _ c.from_residual-in_err-sync.ensures.0
+    (inr (
+      c.write.new.self,
+      (c.in_ok-write.ensures.call, c.in_ok-write.ensures.write),
+      inr (c.write-2.new.self, (c.in_ok-write-2.ensures.call, c.in_ok-write-2.ensures.write), inl (c.in_err-sync.ensures.call, c.in_err-sync.ensures.sync)),
+    ))
+
+pub returns-clause-device : goal.returns-clause-device
+returns-clause-device g c = (
+  c.write.new.self,
+  (c.in_ok-write.ensures.call, c.in_ok-write.ensures.write),
+  (c.write-2.new.self, (c.in_ok-write-2.ensures.call, c.in_ok-write-2.ensures.write), (c.sync.new.self, (c.in_ok-sync.ensures.call, c.in_ok-sync.ensures.sync), refl)),
+)
+
+pub returns-clause-filled : goal.returns-clause-filled
+returns-clause-filled g c columns table generation len h shut stands behind =
+    let side = c.args.side in
+    let h1 = c.write.ensures.call.counted.honest ∙ h in
+    let h2 = c.write-2.ensures.call.counted.honest ∙ h1 in
+    let last = after_sync g columns (goal.at.returns-clause-filled g c).After-sync h shut in
+    let synced = c.in_ok-sync.ensures.sync h2 in
+    let bytes = twice_written side _ _ _ _ c.args.at 1 c.args.last.now c.args.header.now (c.in_ok-write.ensures.write h).done (c.in_ok-write-2.ensures.write h1).done synced.bytes in
+    let stays = other_then (other_then (other_stepped (c.write.ensures.write h)) (other_stepped (c.write-2.ensures.write h1))) (other_synced (c.sync.ensures.sync h2)) in
+    filled_with (g.D.Disk.told c.args.disk.now) (g.D.Disk.told c.sync.new.self) side (written (written (on side (g.D.Disk.told c.args.disk.now).bytes) c.args.at c.args.last.now) 1 c.args.header.now) columns table generation len bytes stands
+    (last.now _ (g.met.D.Disk.reads_image c.sync.new.self last.honest)).here (λ x left. synced.durable x left ∙ sym (ap (on side) synced.bytes)) stays behind

@@ -1,9 +1,12 @@
-use Rattle.std.proofs.Common.{ℕ, List, IsTrue, ◌∙◌}
+use Rattle.std.proofs.Common.{ℕ, List, IsTrue, refl, sym, ◌∙◌, ap, inl, inr}
 use Rattle.q4_value.specs.declared.column.Column.{Column}
 use Rattle.q4_table.specs.TableState.{TableState}
+use Rattle.q4_disk.specs.Images.{on}
 use Rattle.q4_disk.proofs.Moments.{Along, other_stepped, other_synced, other_then}
 use Rattle.q4_store.specs.Parts.{IsFilled}
-use Rattle.q4_store.proofs.Switching.{May, AnyGate, gate_whole, switch_start, switch_write, switch_sync}
+use Rattle.q4_store.specs.Device.{switch_calls}
+use Rattle.q4_store.proofs.Runs.{broke}
+use Rattle.q4_store.proofs.Switching.{May, AnyGate, gate_written, gate_whole, switched, switch_start, switch_write, switch_sync}
 use Rattle.q4_store.proofs.parts.switch.Given as given
 use Rattle.q4_store.proofs.parts.switch.Goals as goal
 use Rattle.q4_store.proofs.parts.switch.Goals.{After-write, After-sync}
@@ -46,3 +49,23 @@ pub returns-clause-other : goal.returns-clause-other
 returns-clause-other g c h =
     let h1 = c.write.ensures.call.counted.honest ∙ h in
     other_then (other_stepped (c.write.ensures.write h)) (other_synced (c.sync.ensures.sync h1))
+
+pub returns-in_err-write-clause-device : goal.returns-in_err-write-clause-device
+returns-in_err-write-clause-device g c = broke g.D.Disk.told (switch_calls c.args.side) c.from_residual.result _ _ c.from_residual.ensures.0 (inl (c.in_err-write.ensures.call, c.in_err-write.ensures.write))
+
+pub returns-in_err-sync-clause-device : goal.returns-in_err-sync-clause-device
+returns-in_err-sync-clause-device g c =
+    broke g.D.Disk.told (switch_calls c.args.side) c.from_residual-in_err-sync.result _ _ c.from_residual-in_err-sync.ensures.0
+    (inr (c.write.new.self, (c.in_ok-write.ensures.call, c.in_ok-write.ensures.write), inl (c.in_err-sync.ensures.call, c.in_err-sync.ensures.sync)))
+
+pub returns-clause-device : goal.returns-clause-device
+returns-clause-device g c = (c.write.new.self, (c.in_ok-write.ensures.call, c.in_ok-write.ensures.write), (c.sync.new.self, (c.in_ok-sync.ensures.call, c.in_ok-sync.ensures.sync), refl))
+
+pub returns-clause-reads : goal.returns-clause-reads
+returns-clause-reads g c columns table generation len h f =
+    let side = c.args.side in
+    let h1 = c.write.ensures.call.counted.honest ∙ h in
+    let synced = c.in_ok-sync.ensures.sync h1 in
+    let bytes = gate_written side _ _ _ (c.in_ok-write.ensures.write h).done synced.bytes in
+    switched columns table generation len side (g.D.Disk.told c.args.disk.now) f (g.D.Disk.told c.sync.new.self) bytes (λ x left. synced.durable x left ∙ sym (ap (on side) synced.bytes))
+    (other_then (other_stepped (c.write.ensures.write h)) (other_synced (c.sync.ensures.sync h1)))

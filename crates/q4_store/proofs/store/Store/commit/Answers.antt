@@ -1,8 +1,10 @@
-use Rattle.std.proofs.Common.{◌≡◌, [], IsTrue, sym, ◌∙◌, subst}
+use Rattle.std.proofs.Common.{◌≡◌, List, ℕ, [], IsTrue, sym, ◌∙◌, subst}
 use Rattle.q4_disk.specs.Time.{LeavesOnly}
+use Rattle.q4_store.specs.Commit.{sealed}
+use Rattle.q4_store.specs.Device.{AllMade, BrokeOff, commit_calls}
 use Rattle.q4_store.specs.Content.{Content, IsPrefix}
 use Rattle.q4_store.specs.Store.{Stored, StandsFor}
-use Rattle.q4_store.proofs.Commits.{nothing_waits, not_so, ends_behind, end_is, leaves, settled_new, stands_open, stands_done}
+use Rattle.q4_store.proofs.Commits.{nothing_waits, not_so, ends_behind, end_is, leaves, settled_new, stands_open, stands_done, held_then}
 use Rattle.q4_store.proofs.store.Store.commit.Given as given
 use Rattle.q4_store.proofs.store.Store.commit.Goals as goal
 use Rattle.q4_store.proofs.store.Store.commit.Goals.{After-commit_batch, In-Ok}
@@ -47,3 +49,18 @@ returns-in-Ok-clause-done g c content s =
     (c.in-Ok.ensures.done _ h (ends_behind g.D.Disk.told _ content here some kept.room c.if-self.false h) (end_is g.D.Disk.told _ content here some kept.room c.if-self.false h))
     (c.in-Ok.ensures.only h) (c.commit_batch.ensures.other h))
     c.commit_batch.ensures.other c.clear.ensures.records
+
+pub returns-in-Ok-clause-device : goal.returns-in-Ok-clause-device
+returns-in-Ok-clause-device g c whole some =
+    let made = subst (λ (bytes : List ℕ). AllMade g.D.Disk.told (commit_calls c.self.inside.side c.self.inside.end bytes) c.self.inside.disk c.commit_batch.new.disk) c.as_slice.ensures c.in-Ok.ensures.device in
+    subst (λ (store : Stored g.row.D.Denot). AllMade g.D.Disk.told (commit_calls store.side store.end (sealed store.records)) store.disk c.commit_batch.new.disk) c.self.view_is made
+
+pub returns-in-Err-clause-device : goal.returns-in-Err-clause-device
+returns-in-Err-clause-device g c whole some =
+    let broke = subst (λ (bytes : List ℕ). BrokeOff g.D.Disk.told (commit_calls c.self.inside.side c.self.inside.end bytes) c.self.inside.disk c.commit_batch.new.disk) c.as_slice.ensures c.in-Err.ensures.device in
+    subst (λ (store : Stored g.row.D.Denot). BrokeOff g.D.Disk.told (commit_calls store.side store.end (sealed store.records)) store.disk c.commit_batch.new.disk) c.self.view_is broke
+
+pub invariant_of-self : goal.invariant_of-self
+invariant_of-self g c =
+    held_then g.D.Disk.told _ c.commit_batch.new.disk c.as_slice.result.now c.clear.new.self.records c.pending_size.result _ c.clear.new.self.room _ c.self.invariant (not_so c.is_empty.result c.is_empty.ensures c.if-is_empty.false)
+    c.commit_batch.ensures.honest c.as_slice.ensures c.pending_size.ensures c.clear.ensures.records c.clear.ensures.room c.in-Ok.ensures.long
