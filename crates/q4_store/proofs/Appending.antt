@@ -53,7 +53,7 @@ appended told store content change records rows reserved s stands valid unowned 
       rows = rows_are ∙ ap (λ (t : TableState). length t.rows) (sym more);
       images = λ honest c left. prefix_more content change store.generation c (s.images honest c left);
       settled = s.settled;
-      known = s.known;
+      ready = s.ready;
     }
 
 -- a row that is removed was there once

@@ -1,22 +1,24 @@
 -- What a commit makes of a store.
-use Rattle.std.proofs.Common.{◌≡◌, ◌≢◌, ℕ, ◌+◌, ◌*◌, ◌≤◌, length-append, Bool, true, false, List, [], ◌∷◌, ◌++◌, None, Some, length, ◌↔◌, IsTrue, refl, sym, ◌∙◌, ap, subst, arith, append_assoc}
+use Rattle.std.proofs.Common.{◌≡◌, ◌≢◌, ℕ, ◌+◌, ◌*◌, ◌≤◌, ◌<◌, inl, inr, length-append, Bool, true, false, List, [], ◌∷◌, ◌++◌, None, Some, length, ◌↔◌, IsTrue, refl, sym, ◌∙◌, ap, subst, arith, append_assoc}
 use Rattle.q4_table.specs.TableState.{TableState}
 use Rattle.q4_value.specs.Spelling.{row_bytes}
 use Rattle.q4_record.specs.declared.head.Head.{Head}
 use Rattle.q4_record.specs.declared.head.Head.TheVariants.{Insert, End, Mark, Next}
 use Rattle.q4_record.specs.Record.{Record, head_bytes, records_bytes}
-use Rattle.q4_record.specs.Side.{side_limit, Side as IsSide}
+use Rattle.q4_record.specs.Side.{side_limit, base_at, generation_of, Side as IsSide}
 use Rattle.q4_disk.specs.declared.disk.Side.{Side}
+use Rattle.q4_disk.specs.declared.disk.Side.TheVariants.{A, B}
 use Rattle.q4_disk.specs.Told.{Sides, Told}
 use Rattle.q4_disk.specs.Images.{on, other, size, Within}
 use Rattle.q4_disk.specs.Time.{LeavesOnly, OtherStays}
 use Rattle.q4_disk.proofs.Moments.{weaker, left_now}
-use Rattle.q4_store.specs.Parts.{IsShut}
+use Rattle.q4_store.specs.Reading.{HasMagic}
+use Rattle.q4_store.specs.Parts.{IsShut, IsSpare, IsReady}
 use Rattle.q4_store.specs.Commit.{sealed, EndsBehind, IsOpenBehind, MayHaveBatch, grown}
 use Rattle.q4_store.specs.Content.{Content, changed, table_of, all_committed, IsPrefix}
 use Rattle.q4_store.specs.Store.{Stored, StandsFor, IsSettled, IsHeld, pending_length, length_of}
 use Rattle.std.specs.Int.{w32, to_be_bytes}
-use Rattle.q4_store.proofs.Lifting.{reads_current, front, p, ends, may_read, settled_then}
+use Rattle.q4_store.proofs.Lifting.{Holds, side_holds, reads_current, front, p, ends, may_read, may_hold, settled_then}
 
 -- a record has bytes
 pub some_bytes : (head : Head) (more : List ℕ) → head_bytes head ++ more ≢ []
@@ -41,8 +43,36 @@ pub some_wait : (records : List ℕ) → records ≢ [] → pending_length recor
 some_wait [] some = absurd (some refl)
 some_wait (b ∷ bs) some = refl
 
-pub shut_stays : (side : Side) (old new : Told) → OtherStays side old new → Within old.images (λ c. IsShut (on (other side) c)) → Within new.images (λ c. IsShut (on (other side) c))
-shut_stays side old new stays was c left = let from = stays.each c left in subst IsShut (sym from.2) (was from.0 from.1)
+-- ## The other side
+
+spare_stays : (side : Side) (generation : ℕ) (c d : Sides) → on (other side) c ≡ on (other side) d → Holds side generation c → Holds side generation d → IsSpare (other side) d → IsSpare (other side) c
+spare_stays side generation c d same now was (inl short) = inl (subst (λ (l : List ℕ). length l < base_at) (sym same) short)
+spare_stays A generation c d same now was (inr outdone) = inr (record {
+  other_open = now.0;
+  magic = subst HasMagic (sym same) outdone.magic;
+  lesser = let here = ap generation_of same in let before = outdone.lesser in omega (arith, here, before, now.1, was.1);
+})
+spare_stays B generation c d same now was (inr outdone) = inr (record {
+  other_open = now.0;
+  magic = subst HasMagic (sym same) outdone.magic;
+  lesser = let here = ap generation_of same in let before = outdone.lesser in omega (arith, here, before, now.1, was.1);
+})
+
+ready_there : (known : Bool) (side : Side) (generation : ℕ) (c d : Sides) → on (other side) c ≡ on (other side) d → Holds side generation c → Holds side generation d → IsReady known (other side) d → IsReady known (other side) c
+ready_there true side generation c d same now was shut = subst IsShut (sym same) shut
+ready_there false side generation c d same now was spare = spare_stays side generation c d same now was spare
+
+-- what is known of the other side, and what it counts for, stays while the current side is open with its generation
+pub ready_stays : (known : Bool) (side : Side) (generation : ℕ) (old new : Told) → OtherStays side old new → Within old.images (Holds side generation) → Within new.images (Holds side generation)
+    → Within old.images (IsReady known (other side)) → Within new.images (IsReady known (other side))
+ready_stays known side generation old new stays was now ready c left =
+    let from = stays.each c left in
+    ready_there known side generation c from.0 from.2 (now c left) (was from.0 from.1) (ready from.0 from.1)
+
+-- in each image of a settled store the current side is open
+pub settled_holds : (told : Told) (side : Side) (table : TableState) (generation end : ℕ) → IsSettled told side table generation end → Within told.images (Holds side generation)
+settled_holds told side table generation end s c left =
+    side_holds table.columns side c table generation end (subst (λ (l : List ℕ). IsSide table.columns l table generation end) (sym (s.only c left)) s.stands)
 
 -- a settled store has what it stands for in each image
 pub settled_reads : (told : Told) (side : Side) (table : TableState) (generation end : ℕ) → IsSettled told side table generation end → (c : Sides) → told.images c → IsPrefix (record { committed = table; pending = [] }) generation c
@@ -54,32 +84,38 @@ settled_reads told side table generation end s c left = record {
 
 -- after a commit that failed
 pub stands_open : {D : Type 0} (told : D → Told) (store : Stored D) (content : Content) (new : D) → StandsFor told store content → (told new).honest ≡ (told store.disk).honest
-    → (IsTrue (told new).honest → (t : ℕ) (c : Sides) → t ≤ (told new).moment → (told new).images c → (told new).since t c) → (IsTrue (told store.disk).honest → LeavesOnly (told store.disk) (told new) (IsPrefix content store.generation))
-    → (IsTrue (told store.disk).honest → OtherStays store.side (told store.disk) (told new)) → StandsFor told (record store { disk = new; failed = true }) content
-stands_open told store content new s same counts run stays = record {
+    → (IsTrue (told new).honest → (t : ℕ) (c : Sides) → t ≤ (told new).moment → (told new).images c → (told new).since t c) → (IsTrue (told store.disk).honest → LeavesOnly (told store.disk) (told new) (λ c. IsPrefix content store.generation c × Holds store.side store.generation c))
+    → (IsTrue (told store.disk).honest → OtherStays store.side (told store.disk) (told new)) → store.failed ≡ false → StandsFor told (record store { disk = new; failed = true }) content
+stands_open told store content new s same counts run stays whole = record {
   valid = s.valid;
   unowned = s.unowned;
   stand = s.stand;
   records = s.records;
   rows = s.rows;
-  images = λ honest c left. left_now (told store.disk) (told new) (IsPrefix content store.generation) (counts honest) (run (sym same ∙ honest)) c left;
-  settled = λ honest whole. absurd (cc whole);
-  known = λ honest is. shut_stays store.side (told store.disk) (told new) (stays (sym same ∙ honest)) (s.known (sym same ∙ honest) is);
+  images = λ honest c left. (left_now (told store.disk) (told new) (λ d. IsPrefix content store.generation d × Holds store.side store.generation d) (counts honest) (run (sym same ∙ honest)) c left).0;
+  settled = λ honest broken. absurd (cc broken);
+  ready = λ honest.
+      let h = sym same ∙ honest in
+      ready_stays store.known store.side store.generation (told store.disk) (told new) (stays h) (settled_holds (told store.disk) store.side content.committed store.generation store.end (s.settled h whole))
+      (λ c left. (left_now (told store.disk) (told new) (λ d. IsPrefix content store.generation d × Holds store.side store.generation d) (counts honest) (run h) c left).1) (s.ready h);
 }
 
 -- after a commit that succeeded
 pub stands_done : {D : Type 0} (told : D → Told) (store : Stored D) (content : Content) (new : D) (end : ℕ) (records : List ℕ) → StandsFor told store content → (told new).honest ≡ (told store.disk).honest
-    → (IsTrue (told store.disk).honest → IsSettled (told new) store.side (table_of content) store.generation end) → (IsTrue (told store.disk).honest → OtherStays store.side (told store.disk) (told new)) → records ≡ []
+    → (IsTrue (told store.disk).honest → IsSettled (told new) store.side (table_of content) store.generation end) → (IsTrue (told store.disk).honest → OtherStays store.side (told store.disk) (told new)) → store.failed ≡ false → records ≡ []
     → StandsFor told (record store { disk = new; end = end; records = records; reserved = 0; failed = false }) (all_committed content)
-stands_done told store content new end records s same settled stays none = record {
+stands_done told store content new end records s same settled stays whole none = record {
   valid = s.valid;
   unowned = s.unowned;
   stand = tt;
   records = none;
   rows = s.rows;
   images = λ honest c left. settled_reads (told new) store.side (table_of content) store.generation end (settled (sym same ∙ honest)) c left;
-  settled = λ honest whole. settled (sym same ∙ honest);
-  known = λ honest is. shut_stays store.side (told store.disk) (told new) (stays (sym same ∙ honest)) (s.known (sym same ∙ honest) is);
+  settled = λ honest still. settled (sym same ∙ honest);
+  ready = λ honest.
+      let h = sym same ∙ honest in
+      ready_stays store.known store.side store.generation (told store.disk) (told new) (stays h) (settled_holds (told store.disk) store.side content.committed store.generation store.end (s.settled h whole))
+      (settled_holds (told new) store.side (table_of content) store.generation end (settled h)) (s.ready h);
 }
 
 pub not_so : {A : Type 0} (b : Bool) → (IsTrue b ↔ A) → b ≡ false → A → ⊥
@@ -107,8 +143,8 @@ module _ {D : Type 0} (told : D → Told) (store : Stored D) (content : Content)
   pub end_is : store.end ≡ length the_front + 1
   end_is = (p old store.side content store.generation store.end settled s.stand fits).end
 
-  pub leaves : (new : Told) (bytes : List ℕ) → bytes ≡ sealed store.records → LeavesOnly old new (MayHaveBatch old.images store.side the_front bytes (grown old store.side store.end bytes)) → LeavesOnly old new (IsPrefix content store.generation)
-  leaves new bytes is written = let run = subst (λ (l : List ℕ). LeavesOnly old new (MayHaveBatch old.images store.side the_front l (grown old store.side store.end l))) (is ∙ ap sealed s.records) written in weaker old new _ (IsPrefix content store.generation) run (may_read old store.side content store.generation store.end settled s.stand fits)
+  pub leaves : (new : Told) (bytes : List ℕ) → bytes ≡ sealed store.records → LeavesOnly old new (MayHaveBatch old.images store.side the_front bytes (grown old store.side store.end bytes)) → LeavesOnly old new (λ c. IsPrefix content store.generation c × Holds store.side store.generation c)
+  leaves new bytes is written = let run = subst (λ (l : List ℕ). LeavesOnly old new (MayHaveBatch old.images store.side the_front l (grown old store.side store.end l))) (is ∙ ap sealed s.records) written in weaker old new _ (λ c. IsPrefix content store.generation c × Holds store.side store.generation c) run (λ c m. (may_read old store.side content store.generation store.end settled s.stand fits c m, may_hold old store.side content store.generation store.end settled s.stand fits c m))
 
   pub settled_new : (new : Told) (bytes : List ℕ) (more : ℕ) → bytes ≡ sealed store.records → more ≡ pending_length store.records → IsOpenBehind the_front bytes (grown old store.side store.end bytes) (on store.side new.bytes)
       → Within new.images (λ c. on store.side c ≡ on store.side new.bytes) → OtherStays store.side old new → IsSettled new store.side (table_of content) store.generation (store.end + more)

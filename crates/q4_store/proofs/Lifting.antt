@@ -9,7 +9,7 @@ use Rattle.q4_record.specs.declared.head.Head.TheVariants.{Insert, End, Mark, Ne
 use Rattle.q4_record.specs.declared.replay.Replay.{Replay}
 use Rattle.q4_record.specs.Record.{Record, records_bytes}
 use Rattle.q4_record.specs.Replay.{table_after, replayed, replays, at_batches, AllStand}
-use Rattle.q4_record.specs.Side.{side_limit, batch_bytes, HasRoom, Side as IsSide}
+use Rattle.q4_record.specs.Side.{side_limit, batch_bytes, generation_of, IsOpen, HasRoom, Side as IsSide}
 use Rattle.q4_disk.specs.declared.disk.Side.{Side}
 use Rattle.q4_disk.specs.Told.{Sides, Told}
 use Rattle.q4_disk.specs.Images.{on, other, Within}
@@ -39,6 +39,13 @@ reads_current columns side c table generation len stands behind = inl (record {
   current = record { is_open = stands.stands.reaches.begins.is_open; behind = subst (λ (n : ℕ). IsBehind n (on (other side) c)) stands.stands.generation_is behind };
   stands = stands;
 })
+
+-- the side is open, and has this generation
+abbrev pub Holds : Side → ℕ → Sides → Type 0
+Holds side generation c = IsOpen (on side c) × (generation_of (on side c) ≡ generation)
+
+pub side_holds : (columns : List Column) (side : Side) (c : Sides) (table : TableState) (generation len : ℕ) → IsSide columns (on side c) table generation len → Holds side generation c
+side_holds columns side c table generation len stands = (stands.stands.reaches.begins.is_open, sym stands.stands.generation_is)
 
 -- a batch, as it is written, behind an open gate
 batch_is : (front records tail : List ℕ) → front ++ 1 ∷ (sealed records ++ tail) ≡ (front ++ (1 ∷ to_be_bytes w32 (length records) ++ records)) ++ 0 ∷ tail
@@ -102,6 +109,14 @@ module _ (told : Told) (side : Side) (content : Content) (generation end : ℕ) 
         reads = subst (λ (rs : List Record). Reads columns c (replays (at_batches content.committed) rs).table generation) (sym (take_all (length content.pending) content.pending (omega arith)))
             (reads_current columns side c (table_of content) generation (end + (5 + length records)) (stands_open (on side c) is_open) behind);
       }
+
+  -- the side stays open, with its generation
+  pub may_hold : (c : Sides) → MayHaveBatch told.images side front (sealed records) (grown told side end (sealed records)) c → Holds side generation c
+  may_hold c m = held m.here
+    where
+      held : IsClosedBehind front (grown told side end (sealed records)) (on side c) ⊎ IsOpenBehind front (sealed records) (grown told side end (sealed records)) (on side c) → Holds side generation c
+      held (inl closed) = side_holds columns side c content.committed generation end (stands_closed (on side c) closed)
+      held (inr is_open) = side_holds columns side c (table_of content) generation (end + (5 + length records)) (stands_open (on side c) is_open)
 
   -- after a commit
   pub settled_then : (new : Told) → IsOpenBehind front (sealed records) (grown told side end (sealed records)) (on side new.bytes) → Within new.images (λ c. on side c ≡ on side new.bytes) → OtherStays side told new

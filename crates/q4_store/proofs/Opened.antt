@@ -1,5 +1,5 @@
 -- A store that was opened.
-use Rattle.std.proofs.Common.{◌≡◌, ℕ, ◌*◌, ◌^◌, ◌≤◌, true, List, [], ◌∷◌, length, IsTrue, sym, ap, subst, arith, length-append}
+use Rattle.std.proofs.Common.{◌≡◌, ℕ, ◌*◌, ◌^◌, ◌≤◌, List, [], ◌∷◌, length, IsTrue, sym, ap, subst, arith, length-append}
 use Rattle.q4_value.specs.declared.column.Column.{Column}
 use Rattle.q4_value.specs.Names.{AreColumns}
 use Rattle.q4_table.specs.TableState.{TableState}
@@ -7,7 +7,7 @@ use Rattle.q4_record.specs.Side.{Side as IsSide}
 use Rattle.q4_record.proofs.Leading.{sound_side}
 use Rattle.q4_disk.specs.Told.{Told}
 use Rattle.q4_disk.specs.Images.{on, other, Within}
-use Rattle.q4_store.specs.Parts.{IsShut}
+use Rattle.q4_store.specs.Parts.{IsReady}
 use Rattle.q4_store.specs.Store.{Stored, StandsFor, IsSettled, IsHeld, pending_length}
 use Rattle.q4_store.proofs.Fronts.{parted}
 use Rattle.q4_store.proofs.Drafts.{are_columns}
@@ -43,8 +43,8 @@ module _ {D : Type 0} (told : D → Told) (store : Stored D) (columns : List Col
     reserve_copy = λ some. absurd (omega (arith, some, reserve));
   }
 
-  pub opened_stands : AreColumns columns → (IsTrue (told store.disk).honest → store.known ≡ true → Within (told store.disk).images (λ c. IsShut (on (other store.side) c))) → StandsFor told store (record { committed = table; pending = [] })
-  opened_stands are known =
+  pub opened_stands : AreColumns columns → (IsTrue (told store.disk).honest → Within (told store.disk).images (IsReady store.known (other store.side))) → StandsFor told store (record { committed = table; pending = [] })
+  opened_stands are ready =
       let sound = sound_side columns bytes table store.generation store.end (are_columns columns are) side in
       record {
         valid = sound.valid;
@@ -54,5 +54,5 @@ module _ {D : Type 0} (told : D → Told) (store : Stored D) (columns : List Col
         rows = rows;
         images = λ honest c left. settled_reads (told store.disk) store.side table store.generation store.end (settled honest) c left;
         settled = λ honest whole. settled honest;
-        known = known;
+        ready = ready;
       }

@@ -18,7 +18,7 @@ use Rattle.q4_disk.specs.Images.{on, other, size, Within}
 use Rattle.q4_store.specs.declared.fault.AppendFault.{AppendFault}
 use Rattle.q4_store.specs.declared.fault.AppendFault.TheVariants as fault
 use Rattle.q4_store.specs.Reading.{IsBehind}
-use Rattle.q4_store.specs.Parts.{IsShut}
+use Rattle.q4_store.specs.Parts.{IsReady}
 use Rattle.q4_store.specs.Content.{Content, table_of, IsPrefix}
 
 pub record Stored (D : Type 0) : Type 0 where
@@ -76,10 +76,10 @@ pub record StandsFor {D : Type 0} (told : D → Told) (store : Stored D) (conten
   -- Where no commit failed it gives exactly what is committed.
   pub settled : IsTrue (told store.disk).honest → store.failed ≡ false
       → IsSettled (told store.disk) store.side content.committed store.generation store.end
-  pub known : IsTrue (told store.disk).honest → store.known ≡ true
-      → Within (told store.disk).images (λ c. IsShut (on (other store.side) c))
+  -- The other side's gate is there and closed where that is known, and else that side counts for nothing with any gate.
+  pub ready : IsTrue (told store.disk).honest → Within (told store.disk).images (IsReady store.known (other store.side))
 
--- What always holds: the closing gate of an honest disk is there, and there is room for the end of each row.
+-- What always holds: the place of an honest disk's closing gate is there, and there is room for the end of each row.
 pub record IsKept {D : Type 0} (told : D → Told) (store : Stored D) : Type 0 where
   pub gate : 1 ≤ store.end
   pub within : IsTrue (told store.disk).honest → store.failed ≡ false → store.end ≤ size store.side (told store.disk).bytes

@@ -1,5 +1,7 @@
 use Rattle.std.proofs.Common.{◌≡◌, List, ℕ, [], IsTrue, sym, ◌∙◌, subst}
 use Rattle.q4_disk.specs.Time.{LeavesOnly}
+use Rattle.q4_disk.proofs.Moments.{weaker}
+use Rattle.q4_store.proofs.Lifting.{Holds}
 use Rattle.q4_store.specs.Commit.{sealed}
 use Rattle.q4_store.specs.Device.{AllMade, BrokeOff, commit_calls}
 use Rattle.q4_store.specs.Content.{Content, IsPrefix}
@@ -17,7 +19,7 @@ returns-then-is_empty-clause-done g c content s =
 
 -- what a commit that was begun leaves, by the store's own disk
 module _ (g : given.Over) (content : Content) where
-  run : (c : goal.After-commit_batch g) → StandsFor g.D.Disk.told c.args.self.now content → IsTrue (g.D.Disk.told c.self.inside.disk).honest → LeavesOnly (g.D.Disk.told c.self.inside.disk) (g.D.Disk.told c.commit_batch.new.disk) (IsPrefix content c.self.inside.generation)
+  run : (c : goal.After-commit_batch g) → StandsFor g.D.Disk.told c.args.self.now content → IsTrue (g.D.Disk.told c.self.inside.disk).honest → LeavesOnly (g.D.Disk.told c.self.inside.disk) (g.D.Disk.told c.commit_batch.new.disk) (λ d. IsPrefix content c.self.inside.generation d × Holds c.self.inside.side c.self.inside.generation d)
   run c s h =
       let here = subst (λ store. StandsFor g.D.Disk.told store content) (sym c.self.view_is) s in
       let some = not_so c.is_empty.result c.is_empty.ensures c.if-is_empty.false in
@@ -27,16 +29,18 @@ module _ (g : given.Over) (content : Content) where
 
 pub returns-in-Ok-clause-any_moment : goal.returns-in-Ok-clause-any_moment
 returns-in-Ok-clause-any_moment g c content s h =
-    subst (λ (store : Stored g.row.D.Denot). IsTrue (g.D.Disk.told store.disk).honest → LeavesOnly (g.D.Disk.told store.disk) (g.D.Disk.told c.commit_batch.new.disk) (IsPrefix content store.generation)) c.self.view_is (run g content (goal.at.returns-in-Ok-clause-any_moment g c).After-commit_batch s) h
+    subst (λ (store : Stored g.row.D.Denot). IsTrue (g.D.Disk.told store.disk).honest → LeavesOnly (g.D.Disk.told store.disk) (g.D.Disk.told c.commit_batch.new.disk) (IsPrefix content store.generation)) c.self.view_is
+    (λ honest. weaker _ _ _ (IsPrefix content c.self.inside.generation) (run g content (goal.at.returns-in-Ok-clause-any_moment g c).After-commit_batch s honest) (λ d both. both.0)) h
 
 pub returns-in-Err-clause-any_moment : goal.returns-in-Err-clause-any_moment
 returns-in-Err-clause-any_moment g c content s h =
-    subst (λ (store : Stored g.row.D.Denot). IsTrue (g.D.Disk.told store.disk).honest → LeavesOnly (g.D.Disk.told store.disk) (g.D.Disk.told c.commit_batch.new.disk) (IsPrefix content store.generation)) c.self.view_is (run g content (goal.at.returns-in-Err-clause-any_moment g c).After-commit_batch s) h
+    subst (λ (store : Stored g.row.D.Denot). IsTrue (g.D.Disk.told store.disk).honest → LeavesOnly (g.D.Disk.told store.disk) (g.D.Disk.told c.commit_batch.new.disk) (IsPrefix content store.generation)) c.self.view_is
+    (λ honest. weaker _ _ _ (IsPrefix content c.self.inside.generation) (run g content (goal.at.returns-in-Err-clause-any_moment g c).After-commit_batch s honest) (λ d both. both.0)) h
 
 pub returns-in-Err-clause-open : goal.returns-in-Err-clause-open
 returns-in-Err-clause-open g c content s =
     let here = subst (λ store. StandsFor g.D.Disk.told store content) (sym c.self.view_is) s in
-    stands_open g.D.Disk.told _ content c.commit_batch.new.disk here c.commit_batch.ensures.honest (g.met.D.Disk.counts_now c.commit_batch.new.disk) (run g content (goal.at.returns-in-Err-clause-open g c).After-commit_batch s) c.commit_batch.ensures.other
+    stands_open g.D.Disk.told _ content c.commit_batch.new.disk here c.commit_batch.ensures.honest (g.met.D.Disk.counts_now c.commit_batch.new.disk) (run g content (goal.at.returns-in-Err-clause-open g c).After-commit_batch s) c.commit_batch.ensures.other c.if-self.false
 
 pub returns-in-Ok-clause-done : goal.returns-in-Ok-clause-done
 returns-in-Ok-clause-done g c content s =
@@ -48,7 +52,7 @@ returns-in-Ok-clause-done g c content s =
     settled_new g.D.Disk.told _ content here some kept.room c.if-self.false h _ c.as_slice.result.now c.pending_size.result c.as_slice.ensures c.pending_size.ensures
     (c.in-Ok.ensures.done _ h (ends_behind g.D.Disk.told _ content here some kept.room c.if-self.false h) (end_is g.D.Disk.told _ content here some kept.room c.if-self.false h))
     (c.in-Ok.ensures.only h) (c.commit_batch.ensures.other h))
-    c.commit_batch.ensures.other c.clear.ensures.records
+    c.commit_batch.ensures.other c.if-self.false c.clear.ensures.records
 
 pub returns-in-Ok-clause-device : goal.returns-in-Ok-clause-device
 returns-in-Ok-clause-device g c whole some =
