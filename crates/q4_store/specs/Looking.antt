@@ -8,7 +8,7 @@ use Rattle.q4_record.specs.Faults.{SideFails}
 use Rattle.q4_record.specs.Written.{base_bytes}
 use Rattle.q4_record.specs.Side.{base_at, generation_of, IsOpen}
 use Rattle.q4_disk.specs.declared.disk.Side.{Side}
-use Rattle.q4_disk.specs.declared.disk.Side.TheVariants.{A}
+use Rattle.q4_disk.specs.declared.disk.Side.TheVariants.{A, B}
 use Rattle.q4_disk.specs.Told.{Sides, Told}
 use Rattle.q4_disk.specs.Images.{on, other, Within}
 use Rattle.q4_disk.specs.Time.{LeavesOnly}
@@ -49,8 +49,8 @@ IsHead bytes head.Short = (length bytes < base_at) × (IsShut bytes → ⊥)
 
 -- which side counts, or that neither is open, and which other gates are there and closed
 abbrev pub IsChoice : Sides → Choice → Type 0
-IsChoice sides (choice.Current side known) = IsCurrent side sides × HasMagic (on side sides) × ((known ≡ true) ↔ IsShut (on (other side) sides))
-IsChoice sides (choice.Neither a b) = (IsOpen sides.a → ⊥) × (IsOpen sides.b → ⊥) × IsReady a A sides × ((a ≡ true) ↔ IsShut sides.a) × ((b ≡ true) ↔ IsShut sides.b)
+IsChoice sides (choice.Current side known) = IsCurrent side sides × HasMagic (on side sides) × ((known ≡ true) ↔ IsShut (on (other side) sides)) × IsReady known (other side) sides
+IsChoice sides (choice.Neither a b) = (IsOpen sides.a → ⊥) × (IsOpen sides.b → ⊥) × IsReady a A sides × ((a ≡ true) ↔ IsShut sides.a) × ((b ≡ true) ↔ IsShut sides.b) × IsReady b B sides
 
 -- or why that is unclear
 abbrev pub IsNoChoice : Sides → OpenFault → Type 0

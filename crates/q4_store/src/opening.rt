@@ -6,7 +6,7 @@ ghost use Rattle.q4_disk.specs.Images.{on, other, Within};
 ghost use Rattle.q4_disk.specs.Time.{LeavesOnly};
 ghost use Rattle.q4_disk.specs.Calls.{CountsFault};
 ghost use Rattle.q4_store.specs.Reading.{Reads, ReadsAs};
-ghost use Rattle.q4_store.specs.Parts.{IsShut};
+ghost use Rattle.q4_store.specs.Parts.{IsShut, IsReady};
 ghost use Rattle.q4_store.specs.Store.{IsSettled};
 ghost use Rattle.q4_store.specs.Opening.{CountsOpen, IsChosen, OpenFails};
 ghost use Rattle.q4_store.specs.Looking.{AddsNone, OnlyReads, HasOpen, IsStill, IsHead, IsChoice};
@@ -53,7 +53,7 @@ pub(crate) fn find<D: Disk>(
     ensures reads { IfOk result (λ found. IsTrue (D.told disk.old).honest → Reads columns.now (D.told disk.old).bytes found.table found.generation) }
     ensures side { IfOk result (λ found. IsTrue (D.told disk.old).honest → IsChosen (D.told disk.old).bytes found.side) }
     ensures settled { IfOk result (λ found. IsTrue (D.told disk.old).honest → IsSettled (D.told disk.new) found.side found.table found.generation found.end) }
-    ensures known { IfOk result (λ found. IsTrue (D.told disk.old).honest → found.known ≡ true → Within (D.told disk.new).images (λ c. IsShut (on (other found.side) c))) }
+    ensures ready { IfOk result (λ found. IsTrue (D.told disk.old).honest → Within (D.told disk.new).images (IsReady found.known (other found.side))) }
     ensures known_is { IfOk result (λ found. IsTrue (D.told disk.old).honest → (found.known ≡ true) ↔ IsShut (on (other found.side) (D.told disk.old).bytes)) }
     ensures fails { IfErr result (λ fault. IsTrue (D.told disk.old).honest → OpenFails columns.now (D.told disk.old).bytes fault) }
 {
@@ -84,7 +84,7 @@ fn find_by<D: Disk>(
     ensures reads { IfOk result (λ found. IsTrue (D.told disk.old).honest → Reads columns.now (D.told disk.old).bytes found.table found.generation) }
     ensures side { IfOk result (λ found. IsTrue (D.told disk.old).honest → IsChosen (D.told disk.old).bytes found.side) }
     ensures settled { IfOk result (λ found. IsTrue (D.told disk.old).honest → IsSettled (D.told disk.new) found.side found.table found.generation found.end) }
-    ensures known { IfOk result (λ found. IsTrue (D.told disk.old).honest → found.known ≡ true → Within (D.told disk.new).images (λ c. IsShut (on (other found.side) c))) }
+    ensures ready { IfOk result (λ found. IsTrue (D.told disk.old).honest → Within (D.told disk.new).images (IsReady found.known (other found.side))) }
     ensures known_is { IfOk result (λ found. IsTrue (D.told disk.old).honest → (found.known ≡ true) ↔ IsShut (on (other found.side) (D.told disk.old).bytes)) }
     ensures fails { IfErr result (λ fault. IsTrue (D.told disk.old).honest → OpenFails columns.now (D.told disk.old).bytes fault) }
 {
@@ -143,7 +143,7 @@ fn find_current<D: Disk>(
     ensures reads { IfOk result (λ found. IsTrue (D.told disk.old).honest → Reads columns.now (D.told disk.old).bytes found.table found.generation) }
     ensures side { IfOk result (λ found. IsTrue (D.told disk.old).honest → IsChosen (D.told disk.old).bytes found.side) }
     ensures settled { IfOk result (λ found. IsTrue (D.told disk.old).honest → IsSettled (D.told disk.new) found.side found.table found.generation found.end) }
-    ensures known { IfOk result (λ found. IsTrue (D.told disk.old).honest → found.known ≡ true → Within (D.told disk.new).images (λ c. IsShut (on (other found.side) c))) }
+    ensures ready { IfOk result (λ found. IsTrue (D.told disk.old).honest → Within (D.told disk.new).images (IsReady found.known (other found.side))) }
     ensures known_is { IfOk result (λ found. IsTrue (D.told disk.old).honest → (found.known ≡ true) ↔ IsShut (on (other found.side) (D.told disk.old).bytes)) }
     ensures fails { IfErr result (λ fault. IsTrue (D.told disk.old).honest → OpenFails columns.now (D.told disk.old).bytes fault) }
 {
@@ -178,7 +178,7 @@ fn make_new<D: Disk>(
     ensures reads { IfOk result (λ found. IsTrue (D.told disk.old).honest → Reads columns.now (D.told disk.old).bytes found.table found.generation) }
     ensures side { IfOk result (λ found. IsTrue (D.told disk.old).honest → IsChosen (D.told disk.old).bytes found.side) }
     ensures settled { IfOk result (λ found. IsTrue (D.told disk.old).honest → IsSettled (D.told disk.new) found.side found.table found.generation found.end) }
-    ensures known { IfOk result (λ found. IsTrue (D.told disk.old).honest → found.known ≡ true → Within (D.told disk.new).images (λ c. IsShut (on (other found.side) c))) }
+    ensures ready { IfOk result (λ found. IsTrue (D.told disk.old).honest → Within (D.told disk.new).images (IsReady found.known (other found.side))) }
     ensures known_is { IfOk result (λ found. IsTrue (D.told disk.old).honest → (found.known ≡ true) ↔ IsShut (on (other found.side) (D.told disk.old).bytes)) }
     ensures fails { IfErr result (λ fault. IsTrue (D.told disk.old).honest → OpenFails columns.now (D.told disk.old).bytes fault) }
 {

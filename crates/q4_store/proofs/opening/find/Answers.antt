@@ -3,7 +3,7 @@ use Rattle.q4_disk.specs.Told.{Sides}
 use Rattle.q4_disk.specs.Images.{on, other, Within}
 use Rattle.q4_disk.proofs.Moments.{weaker}
 use Rattle.q4_store.specs.Reading.{Reads, ReadsAs}
-use Rattle.q4_store.specs.Parts.{IsShut}
+use Rattle.q4_store.specs.Parts.{IsShut, IsReady}
 use Rattle.q4_store.specs.Looking.{HasOpen}
 use Rattle.q4_store.specs.Opening.{IsChosen, OpenFails}
 use Rattle.q4_store.proofs.Finding.{ok_still, err_still, reads_on}
@@ -38,7 +38,7 @@ pub returns-clause-known_is : goal.returns-clause-known_is
 returns-clause-known_is g c =
     ok_still c.find_by.result _ _ (λ (s : Sides) found. (found.known ≡ true) ↔ IsShut (on (other found.side) s)) _ _ c.look.ensures.honest (λ h. (c.look.ensures.rests h).bytes) c.find_by.ensures.known_is
 
-pub returns-clause-known : goal.returns-clause-known
-returns-clause-known g c =
+pub returns-clause-ready : goal.returns-clause-ready
+returns-clause-ready g c =
     let images = (g.D.Disk.told c.find_by.new.disk).images in
-    ok_still c.find_by.result _ _ (λ (s : Sides) found. found.known ≡ true → Within images (λ d. IsShut (on (other found.side) d))) _ _ c.look.ensures.honest (λ h. (c.look.ensures.rests h).bytes) c.find_by.ensures.known
+    ok_still c.find_by.result _ _ (λ (s : Sides) found. Within images (IsReady found.known (other found.side))) _ _ c.look.ensures.honest (λ h. (c.look.ensures.rests h).bytes) c.find_by.ensures.ready

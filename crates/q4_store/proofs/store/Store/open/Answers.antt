@@ -12,7 +12,7 @@ invariant_of-store g c =
 pub returns-clause-stands : goal.returns-clause-stands
 returns-clause-stands g c =
     let found = c.in-Ok.ensures in
-    opened_stands g.D.Disk.told _ c.args.def.now.columns found.sound.0 c.in-Ok.found.table found.sound.1 (λ h. found.settled (sym found.honest ∙ h)) c.in-Ok-hold.ensures.records c.count-rows.ensures c.requires (λ h. found.known (sym found.honest ∙ h))
+    opened_stands g.D.Disk.told _ c.args.def.now.columns found.sound.0 c.in-Ok.found.table found.sound.1 (λ h. found.settled (sym found.honest ∙ h)) c.in-Ok-hold.ensures.records c.count-rows.ensures c.requires (λ h. found.ready (sym found.honest ∙ h))
 
 pub returns-clause-fresh : goal.returns-clause-fresh
 returns-clause-fresh g c =
