@@ -67,7 +67,8 @@ pub(crate) fn create<D: Disk>(disk: &mut D, known: bool, draft: &Draft) -> Resul
     ensures other { IsTrue (D.told disk.old).honest → OtherStays A (D.told disk.old) (D.told disk.new) }
     ensures device { (columns : List Column) → IsDraft columns draft.now.base draft.now.header → Makes D.told (create_calls columns known) result disk.old disk.new }
 {
-    prepare(disk, Side::A, known)?;
+    let mut known = known;
+    prepare(disk, Side::A, &mut known)?;
     fill(disk, Side::A, BASE_AT, draft.base.as_slice(), &draft.header)?;
     switch(disk, Side::A)?;
     Ok(())

@@ -1,7 +1,7 @@
 // The parts in which a table is written onto the side that isn't current, of at most four device calls each: prepare,
 // fill and switch.
 
-ghost use Rattle.std.specs.Prelude.{◌≡◌, ◌+◌, ◌≤◌, ◌⊎◌, ℕ, List, [], ◌∷◌, IsTrue, OnOk, length};
+ghost use Rattle.std.specs.Prelude.{◌≡◌, ◌+◌, ◌≤◌, ◌⊎◌, ℕ, true, false, List, [], ◌∷◌, IsTrue, OnOk, OnErr, length};
 ghost use Rattle.q4_value.specs.declared.column.Column.{Column};
 ghost use Rattle.q4_table.specs.TableState.{TableState};
 ghost use Rattle.q4_record.specs.Side.{Side as IsSide};
@@ -10,8 +10,8 @@ ghost use Rattle.q4_disk.specs.Images.{on, other, size, written, Within};
 ghost use Rattle.q4_disk.specs.Time.{LeavesOnly, OtherStays};
 ghost use Rattle.q4_disk.specs.Calls.{CountsFault};
 ghost use Rattle.q4_store.specs.Reading.{Reads, ReadsAs, IsBehind};
-ghost use Rattle.q4_store.specs.Parts.{IsShut, IsBlank, IsReady, IsFilled, opened};
-ghost use Rattle.q4_store.specs.Device.{Makes, close_calls, blank_calls, prepare_calls, fill_calls, switch_calls};
+ghost use Rattle.q4_store.specs.Parts.{IsShut, IsBlank, IsSpare, IsReady, IsFilled, opened};
+ghost use Rattle.q4_store.specs.Device.{Makes, BrokeOff, close_calls, blank_calls, prepare_calls, fill_calls, switch_calls};
 
 use q4_disk::{Disk, DiskFailed, Side};
 
@@ -24,6 +24,9 @@ pub(crate) fn close<D: Disk>(disk: &mut D, side: Side, known: bool) -> Result<()
         → LeavesOnly (D.told disk.old) (D.told disk.new) (ReadsAs columns (D.told disk.old).images) }
     ensures shut { OnOk result (IsTrue (D.told disk.old).honest → Within (D.told disk.old).images (IsReady known side)
         → Within (D.told disk.new).images (λ c. IsShut (on side c))) }
+    // Where it fails the side counts for nothing with any gate, as before.
+    ensures spare { OnErr result (IsTrue (D.told disk.old).honest → Within (D.told disk.old).images (IsReady known side)
+        → Within (D.told disk.new).images (IsSpare side)) }
     ensures other { IsTrue (D.told disk.old).honest → OtherStays side (D.told disk.old) (D.told disk.new) }
     ensures device { Makes D.told (close_calls side known) result disk.old disk.new }
 {
@@ -55,9 +58,14 @@ pub(crate) fn blank<D: Disk>(disk: &mut D, side: Side) -> Result<(), DiskFailed>
     Ok(())
 }
 
-/// Makes a side ready for a table: closes its gate and writes zeros behind it, by at most four device calls.
-pub(crate) fn prepare<D: Disk>(disk: &mut D, side: Side, known: bool) -> Result<(), DiskFailed>
-    requires { IsTrue (D.told disk.old).honest → Within (D.told disk.old).images (IsReady known side) }
+/// Makes a side ready for a table: closes its gate and writes zeros behind it, by at most four device calls. The gate is
+/// known to be closed from then on, and where it fails only behind the calls that close it.
+pub(crate) fn prepare<D: Disk>(
+    disk: &mut D,
+    side: Side,
+    known: &mut bool,
+) -> Result<(), DiskFailed>
+    requires { IsTrue (D.told disk.old).honest → Within (D.told disk.old).images (IsReady known.old side) }
     ensures honest { (D.told disk.new).honest ≡ (D.told disk.old).honest }
     ensures faults { CountsFault result (D.told disk.old).faults (D.told disk.new).faults }
     // At each moment inside it each image reads as one that there was, and so, whether it fails or not, behind it.
@@ -67,9 +75,15 @@ pub(crate) fn prepare<D: Disk>(disk: &mut D, side: Side, known: bool) -> Result<
     ensures shut { OnOk result (IsTrue (D.told disk.old).honest → Within (D.told disk.new).images (λ c. IsShut (on side c))) }
     ensures blank { OnOk result (IsTrue (D.told disk.old).honest → IsBlank (on side (D.told disk.new).bytes)) }
     ensures other { IsTrue (D.told disk.old).honest → OtherStays side (D.told disk.old) (D.told disk.new) }
-    ensures device { Makes D.told (prepare_calls side known) result disk.old disk.new }
+    // What is known of the gate then holds, so that a later try may begin with it.
+    ensures ready { IsTrue (D.told disk.old).honest → Within (D.told disk.new).images (IsReady known.new side) }
+    ensures known { OnOk result (known.new ≡ true) }
+    ensures kept { known.old ≡ true → known.new ≡ true }
+    ensures unknown { known.new ≡ false → BrokeOff D.told (close_calls side false) disk.old disk.new }
+    ensures device { Makes D.told (prepare_calls side known.old) result disk.old disk.new }
 {
-    close(disk, side, known)?;
+    close(disk, side, *known)?;
+    *known = true;
     blank(disk, side)?;
     Ok(())
 }

@@ -1,4 +1,4 @@
-use Rattle.std.proofs.Common.{List, [], ◌∷◌, IsTrue, false, refl, sym, ◌∙◌, subst, inl, inr}
+use Rattle.std.proofs.Common.{Result, Ok, Err, OnErr, List, [], ◌∷◌, IsTrue, false, refl, sym, ◌∙◌, subst, inl, inr}
 use Rattle.q4_value.specs.declared.column.Column.{Column}
 use Rattle.q4_disk.specs.Images.{Within}
 use Rattle.q4_disk.proofs.Moments.{Along, other_stepped, other_synced, other_then}
@@ -67,3 +67,14 @@ pub returns-clause-device : goal.returns-clause-device
 returns-clause-device g c =
     subst (λ known. AllMade g.D.Disk.told (close_calls c.args.side known) c.args.disk.now c.sync.new.self) (sym c.if-known.false)
     (c.write.new.self, (c.in_ok-write.ensures.call, c.in_ok-write.ensures.write), (c.sync.new.self, (c.in_ok-sync.ensures.call, c.in_ok-sync.ensures.sync), refl))
+
+on_err : {T E : Type 0} {P : Type 0} (result : Result T E) → P → OnErr result P
+on_err (Ok x) p = tt
+on_err (Err why) p = p
+
+pub returns-in_err-write-clause-spare : goal.returns-in_err-write-clause-spare
+returns-in_err-write-clause-spare g c = on_err c.from_residual.result (λ h ready d left. ((after_write g [] (goal.at.returns-in_err-write-clause-spare g c).After-write h ready).now d left).here)
+
+pub returns-in_err-sync-clause-spare : goal.returns-in_err-sync-clause-spare
+returns-in_err-sync-clause-spare g c = on_err c.from_residual-in_err-sync.result (λ h ready d left.
+    ((idle_sync [] c.args.side _ _ _ (IsSpare c.args.side) (after_write g [] (goal.at.returns-in_err-sync-clause-spare g c).After-write h ready) c.sync.ensures.call.counted.honest c.sync.ensures.sync (spare_idle c.args.side)).now d left).here)
