@@ -1,11 +1,19 @@
 -- Runs of device calls, one after another.
-use Rattle.std.proofs.Common.{IsErr, ◌≡◌, ◌⊎◌, List, [], ◌∷◌, ◌++◌, Result, Ok, Err, refl, sym, ◌∙◌, ap, subst, inl, inr, append_assoc}
+use Rattle.std.proofs.Common.{◌≡◌, ◌≢◌, ◌⊎◌, ◌↔◌, true, Bool, IsTrue, IsErr, ℕ, List, [], ◌∷◌, ◌++◌, Result, Ok, Err, refl, sym, ◌∙◌, ap, subst, inl, inr, append_assoc}
 use Rattle.std.proofs.lemmas.List.{append-nil}
+use Rattle.std.specs.Result.{IfErr}
+use Rattle.q4_value.specs.declared.column.Column.{Column}
+use Rattle.q4_record.specs.Side.{IsOpen}
 use Rattle.q4_disk.specs.declared.disk.DiskFailed.{DiskFailed}
-use Rattle.q4_disk.specs.Told.{Told}
+use Rattle.q4_disk.specs.declared.disk.Side.{Side}
+use Rattle.q4_disk.specs.Told.{Sides, Told}
+use Rattle.q4_disk.specs.Images.{size}
+use Rattle.q4_disk.specs.Calls.{IsCall}
 use Rattle.q4_store.specs.declared.fault.OpenFault.{OpenFault}
 use Rattle.q4_store.specs.declared.fault.OpenFault.TheVariants as fault
-use Rattle.q4_store.specs.Device.{DeviceCall, IsMade, AllMade, BrokeOff, Makes, StopsEarly, Stops}
+use Rattle.q4_store.specs.Reading.{IsCurrent}
+use Rattle.q4_store.specs.Parts.{IsShut}
+use Rattle.q4_store.specs.Device.{DeviceCall, IsMade, AllMade, BrokeOff, Makes, StopsEarly, Stops, load_calls, Size, Read, ReadsCurrent, WritesNew, IsBehindLook}
 
 module _ {D : Type 0} (told : D → Told) where
   -- one call
@@ -49,3 +57,60 @@ module _ {D : Type 0} (told : D → Told) where
   stops_then first second (fault.Schema column) a b c before stops = early_then first second a b c before stops
   stops_then first second (fault.Large limit) a b c before stops = early_then first second a b c before stops
   stops_then first second fault.Memory a b c before stops = early_then first second a b c before stops
+
+  -- it stopped behind a front for another reason than the disk
+  pub stops_early : (why : OpenFault) (front rest : List DeviceCall) (a b : D) → why ≢ fault.Disk → AllMade told front a b → Stops told (front ++ rest) why a b
+  stops_early fault.Disk front rest a b other made = absurd (other refl)
+  stops_early (fault.Damaged side place) front rest a b other made = record { front = front; rest = rest; parts = refl; made = made }
+  stops_early (fault.Schema column) front rest a b other made = record { front = front; rest = rest; parts = refl; made = made }
+  stops_early (fault.Large limit) front rest a b other made = record { front = front; rest = rest; parts = refl; made = made }
+  stops_early fault.Memory front rest a b other made = record { front = front; rest = rest; parts = refl; made = made }
+
+  -- all was called, and what came behind asks the disk for nothing
+  pub all_called : {T : Type 0} (calls : List DeviceCall) (result : Result T OpenFault) (a b : D) → AllMade told calls a b → IfErr result (λ why. why ≢ fault.Disk) → IfErr result (λ why. Stops told calls why a b)
+  all_called calls (Ok x) a b made other = tt
+  all_called calls (Err why) a b made other = subst (λ (l : List DeviceCall). Stops told l why a b) (append-nil calls) (stops_early why calls [] a b other made)
+
+  -- a side's size was asked for, and it was read
+  pub load_stops : {T : Type 0} (side : Side) (n total : ℕ) (honest : Bool) (result : Result T OpenFault) (a b c : D) → (IsTrue honest → n ≡ total) → AllMade told (Size side ∷ []) a b → IfErr result (λ why. Stops told (Read side 0 n ∷ []) why b c)
+      → IfErr result (λ why. (k : ℕ) × (IsTrue honest → k ≡ total) × Stops told (load_calls side k) why a c)
+  load_stops side n total honest (Ok x) a b c whole sized stops = tt
+  load_stops side n total honest (Err why) a b c whole sized stops = (n, whole, stops_then (Size side ∷ []) (Read side 0 n ∷ []) why a b c sized stops)
+
+-- what is said of a call doesn't rest on its answer
+pub called_ok : {T : Type 0} (x : T) (old new : Told) → IsCall {T = T} {E = DiskFailed} (Ok x) old new → IsCall {T = Unit {0}} {E = DiskFailed} (Ok tt) old new
+called_ok x old new call = record {
+  counted = record { honest = call.counted.honest; faults = record { later = call.counted.faults.later; failed = tt; stayed = call.counted.faults.stayed }; calls = call.counted.calls };
+  writes = call.writes;
+  syncs = call.syncs;
+}
+
+pub called_err : {T : Type 0} (why : DiskFailed) (old new : Told) → IsCall {T = T} {E = DiskFailed} (Err why) old new → IsCall {T = Unit {0}} {E = DiskFailed} (Err why) old new
+called_err why old new call = record {
+  counted = record { honest = call.counted.honest; faults = record { later = call.counted.faults.later; failed = call.counted.faults.failed; stayed = tt }; calls = call.counted.calls };
+  writes = call.writes;
+  syncs = call.syncs;
+}
+
+-- the calls behind the look, by what the look leaves as it was
+pub current_still : (old mid : Told) (calls : List DeviceCall) → mid.honest ≡ old.honest → (IsTrue old.honest → mid.bytes ≡ old.bytes) → ReadsCurrent mid calls → ReadsCurrent old calls
+current_still old mid calls same bytes reads = record {
+  side = reads.side;
+  length = reads.length;
+  are = reads.are;
+  current = λ h. subst (IsCurrent reads.side) (bytes h) (reads.current (same ∙ h));
+  whole = λ h. reads.whole (same ∙ h) ∙ ap (size reads.side) (bytes h);
+}
+
+pub new_still : (columns : List Column) (old mid : Told) (calls : List DeviceCall) → mid.honest ≡ old.honest → (IsTrue old.honest → mid.bytes ≡ old.bytes) → WritesNew columns mid calls → WritesNew columns old calls
+new_still columns old mid calls same bytes writes = record {
+  known = writes.known;
+  are = writes.are;
+  closed_a = λ h is_open. writes.closed_a (same ∙ h) (subst (λ (s : Sides). IsOpen s.a) (sym (bytes h)) is_open);
+  closed_b = λ h is_open. writes.closed_b (same ∙ h) (subst (λ (s : Sides). IsOpen s.b) (sym (bytes h)) is_open);
+  known_is = λ h. subst (λ (s : Sides). (writes.known ≡ true) ↔ IsShut s.a) (bytes h) (writes.known_is (same ∙ h));
+}
+
+pub behind_still : (columns : List Column) (old mid : Told) (calls : List DeviceCall) → mid.honest ≡ old.honest → (IsTrue old.honest → mid.bytes ≡ old.bytes) → IsBehindLook columns mid calls → IsBehindLook columns old calls
+behind_still columns old mid calls same bytes (inl reads) = inl (current_still old mid calls same bytes reads)
+behind_still columns old mid calls same bytes (inr writes) = inr (new_still columns old mid calls same bytes writes)
