@@ -1,7 +1,7 @@
 -- Runs of device calls, one after another.
 use Rattle.std.proofs.Common.{◌≡◌, ◌≢◌, ◌⊎◌, ◌↔◌, true, Bool, IsTrue, IsErr, ℕ, List, [], ◌∷◌, ◌++◌, Result, Ok, Err, refl, sym, ◌∙◌, ap, subst, inl, inr, append_assoc}
 use Rattle.std.proofs.lemmas.List.{append-nil}
-use Rattle.std.specs.Result.{IfErr}
+use Rattle.std.specs.Result.{IfErr, OnOk}
 use Rattle.q4_value.specs.declared.column.Column.{Column}
 use Rattle.q4_record.specs.Side.{IsOpen}
 use Rattle.q4_disk.specs.declared.disk.DiskFailed.{DiskFailed}
@@ -11,9 +11,11 @@ use Rattle.q4_disk.specs.Images.{size}
 use Rattle.q4_disk.specs.Calls.{IsCall}
 use Rattle.q4_store.specs.declared.fault.OpenFault.{OpenFault}
 use Rattle.q4_store.specs.declared.fault.OpenFault.TheVariants as fault
+use Rattle.q4_store.specs.declared.head.Choice.TheVariants as choice
 use Rattle.q4_store.specs.Reading.{IsCurrent}
 use Rattle.q4_store.specs.Parts.{IsShut}
-use Rattle.q4_store.specs.Device.{DeviceCall, IsMade, AllMade, BrokeOff, Makes, StopsEarly, Stops, load_calls, Size, Read, ReadsCurrent, WritesNew, IsBehindLook}
+use Rattle.q4_store.specs.Looking.{IsChoice}
+use Rattle.q4_store.specs.Device.{DeviceCall, IsMade, AllMade, BrokeOff, Makes, StopsEarly, Stops, load_calls, Size, Read, ReadsCurrent, WritesNew, IsBehindLook, HasOpened, HasStopped, look_calls, create_calls}
 
 module _ {D : Type 0} (told : D → Told) where
   -- one call
@@ -114,3 +116,51 @@ new_still columns old mid calls same bytes writes = record {
 pub behind_still : (columns : List Column) (old mid : Told) (calls : List DeviceCall) → mid.honest ≡ old.honest → (IsTrue old.honest → mid.bytes ≡ old.bytes) → IsBehindLook columns mid calls → IsBehindLook columns old calls
 behind_still columns old mid calls same bytes (inl reads) = inl (current_still old mid calls same bytes reads)
 behind_still columns old mid calls same bytes (inr writes) = inr (new_still columns old mid calls same bytes writes)
+
+pub current_read : (told : Told) (side : Side) (known : Bool) (n : ℕ) → (IsTrue told.honest → IsChoice told.bytes (choice.Current side known)) → (IsTrue told.honest → n ≡ size side told.bytes) → ReadsCurrent told (load_calls side n)
+current_read told side known n chosen whole = record { side = side; length = n; are = refl; current = λ h. (chosen h).0; whole = whole }
+
+pub new_written : (columns : List Column) (told : Told) (known other : Bool) → (IsTrue told.honest → IsChoice told.bytes (choice.Neither known other)) → WritesNew columns told (create_calls columns known)
+new_written columns told known other chosen = record { known = known; are = refl; closed_a = λ h. (chosen h).0; closed_b = λ h. (chosen h).1; known_is = λ h. (chosen h).3 }
+
+-- opening goes on behind its look
+module _ {D : Type 0} (told : D → Told) (columns : List Column) where
+  pub reads_ok : {T E : Type 0} (result : Result T E) (a b : D) → OnOk result ((calls : List DeviceCall) × ReadsCurrent (told a) calls × AllMade told calls a b) → OnOk result ((calls : List DeviceCall) × IsBehindLook columns (told a) calls × AllMade told calls a b)
+  reads_ok (Ok x) a b made = (made.0, inl made.1, made.2)
+  reads_ok (Err why) a b made = tt
+
+  pub writes_ok : {T E : Type 0} (result : Result T E) (a b : D) → OnOk result ((calls : List DeviceCall) × WritesNew columns (told a) calls × AllMade told calls a b) → OnOk result ((calls : List DeviceCall) × IsBehindLook columns (told a) calls × AllMade told calls a b)
+  writes_ok (Ok x) a b made = (made.0, inr made.1, made.2)
+  writes_ok (Err why) a b made = tt
+
+  pub reads_err : {T : Type 0} (result : Result T OpenFault) (a b : D) → IfErr result (λ why. (calls : List DeviceCall) × ReadsCurrent (told a) calls × Stops told calls why a b)
+      → IfErr result (λ why. (calls : List DeviceCall) × (IsBehindLook columns (told a) calls ⊎ (calls ≡ [])) × Stops told calls why a b)
+  reads_err (Ok x) a b stops = tt
+  reads_err (Err why) a b stops = (stops.0, inl (inl stops.1), stops.2)
+
+  pub writes_err : {T : Type 0} (result : Result T OpenFault) (a b : D) → IfErr result (λ why. (calls : List DeviceCall) × WritesNew columns (told a) calls × Stops told calls why a b)
+      → IfErr result (λ why. (calls : List DeviceCall) × (IsBehindLook columns (told a) calls ⊎ (calls ≡ [])) × Stops told calls why a b)
+  writes_err (Ok x) a b stops = tt
+  writes_err (Err why) a b stops = (stops.0, inl (inr stops.1), stops.2)
+
+  still_stops : (old mid : Told) (calls : List DeviceCall) → mid.honest ≡ old.honest → (IsTrue old.honest → mid.bytes ≡ old.bytes) → IsBehindLook columns mid calls ⊎ (calls ≡ []) → IsBehindLook columns old calls ⊎ (calls ≡ [])
+  still_stops old mid calls same bytes (inl behind) = inl (behind_still columns old mid calls same bytes behind)
+  still_stops old mid calls same bytes (inr none) = inr none
+
+  pub opened_ok : {T E : Type 0} (result : Result T E) (a b c : D) → AllMade told look_calls a b → (told b).honest ≡ (told a).honest → (IsTrue (told a).honest → (told b).bytes ≡ (told a).bytes)
+      → OnOk result ((calls : List DeviceCall) × IsBehindLook columns (told b) calls × AllMade told calls b c) → OnOk result (HasOpened columns told a c)
+  opened_ok (Ok x) a b c look same bytes made = record { calls = made.0; behind = behind_still columns (told a) (told b) made.0 same bytes made.1; made = made_then told look_calls made.0 a b c look made.2 }
+  opened_ok (Err why) a b c look same bytes made = tt
+
+  pub opened_err : {T : Type 0} (result : Result T OpenFault) (a b c : D) → AllMade told look_calls a b → (told b).honest ≡ (told a).honest → (IsTrue (told a).honest → (told b).bytes ≡ (told a).bytes)
+      → IfErr result (λ why. (calls : List DeviceCall) × (IsBehindLook columns (told b) calls ⊎ (calls ≡ [])) × Stops told calls why b c) → IfErr result (λ why. HasStopped columns told why a c)
+  opened_err (Ok x) a b c look same bytes stops = tt
+  opened_err (Err why) a b c look same bytes stops = record { calls = stops.0; behind = still_stops (told a) (told b) stops.0 same bytes stops.1; stops = stops_then told look_calls stops.0 why a b c look stops.2 }
+
+  -- it opened, and memory was wanted behind it
+  pub opened_unheld : (a b : D) → HasOpened columns told a b → HasStopped columns told fault.Memory a b
+  opened_unheld a b opened = record {
+    calls = opened.calls;
+    behind = inl opened.behind;
+    stops = record { front = look_calls ++ opened.calls; rest = []; parts = sym (append-nil (look_calls ++ opened.calls)); made = opened.made };
+  }
