@@ -32,6 +32,10 @@ module _ {D : Type 0} (told : D → Told) where
   made_then [] second a b c is made = subst (λ (d : D). AllMade told second d c) is made
   made_then (call ∷ first) second a b c before made = (before.0, before.1, made_then first second before.0 b c before.2 made)
 
+  made_parts : (first second : List DeviceCall) (a c : D) → AllMade told (first ++ second) a c → (b : D) × AllMade told first a b × AllMade told second b c
+  made_parts [] second a c made = (a, refl, made)
+  made_parts (call ∷ first) second a c made = let rest = made_parts first second made.0 c made.2 in (rest.0, (made.0, made.1, rest.1), rest.2)
+
   -- it broke off in the first
   pub broke_first : (first second : List DeviceCall) (a b : D) → BrokeOff told first a b → BrokeOff told (first ++ second) a b
   broke_first [] second a b broke = absurd broke
@@ -67,6 +71,13 @@ module _ {D : Type 0} (told : D → Told) where
   stops_early (fault.Schema column) front rest a b other made = record { front = front; rest = rest; parts = refl; made = made }
   stops_early (fault.Large limit) front rest a b other made = record { front = front; rest = rest; parts = refl; made = made }
   stops_early fault.Memory front rest a b other made = record { front = front; rest = rest; parts = refl; made = made }
+
+  is_early : (calls : List DeviceCall) (why : OpenFault) (a b : D) → why ≢ fault.Disk → Stops told calls why a b → StopsEarly told calls a b
+  is_early calls fault.Disk a b other stops = absurd (other refl)
+  is_early calls (fault.Damaged side place) a b other stops = stops
+  is_early calls (fault.Schema column) a b other stops = stops
+  is_early calls (fault.Large limit) a b other stops = stops
+  is_early calls fault.Memory a b other stops = stops
 
   -- all was called, and what came behind asks the disk for nothing
   pub all_called : {T : Type 0} (calls : List DeviceCall) (result : Result T OpenFault) (a b : D) → AllMade told calls a b → IfErr result (λ why. why ≢ fault.Disk) → IfErr result (λ why. Stops told calls why a b)
@@ -155,12 +166,23 @@ module _ {D : Type 0} (told : D → Told) (columns : List Column) where
   pub opened_err : {T : Type 0} (result : Result T OpenFault) (a b c : D) → AllMade told look_calls a b → (told b).honest ≡ (told a).honest → (IsTrue (told a).honest → (told b).bytes ≡ (told a).bytes)
       → IfErr result (λ why. (calls : List DeviceCall) × (IsBehindLook columns (told b) calls ⊎ (calls ≡ [])) × Stops told calls why b c) → IfErr result (λ why. HasStopped columns told why a c)
   opened_err (Ok x) a b c look same bytes stops = tt
-  opened_err (Err why) a b c look same bytes stops = record { calls = stops.0; behind = still_stops (told a) (told b) stops.0 same bytes stops.1; stops = stops_then told look_calls stops.0 why a b c look stops.2 }
+  opened_err (Err why) a b c look same bytes stops = record {
+    calls = stops.0;
+    behind = still_stops (told a) (told b) stops.0 same bytes stops.1;
+    failed = λ disk. broke_then told look_calls stops.0 a b c look (subst (λ w. Stops told stops.0 w b c) disk stops.2);
+    refused = λ other. (b, look, is_early told stops.0 why b c other stops.2);
+  }
 
   -- it opened, and memory was wanted behind it
   pub opened_unheld : (a b : D) → HasOpened columns told a b → HasStopped columns told fault.Memory a b
   opened_unheld a b opened = record {
     calls = opened.calls;
     behind = inl opened.behind;
-    stops = record { front = look_calls ++ opened.calls; rest = []; parts = sym (append-nil (look_calls ++ opened.calls)); made = opened.made };
+    failed = λ wrong. absurd (cc wrong);
+    refused = λ other. let parts = made_parts told look_calls opened.calls a b opened.made in
+        (parts.0, parts.1, record { front = opened.calls; rest = []; parts = sym (append-nil opened.calls); made = parts.2 });
   }
+
+  -- the look broke off
+  pub look_broke : (a b : D) → BrokeOff told look_calls a b → HasStopped columns told fault.Disk a b
+  look_broke a b off = record { calls = []; behind = inr refl; failed = λ disk. off; refused = λ other. absurd (other refl) }

@@ -1,4 +1,4 @@
-use Rattle.std.proofs.Common.{[], refl, inr, ◌≡◌, ◌↔◌, true, sym, ◌∙◌, subst}
+use Rattle.std.proofs.Common.{◌≡◌, ◌↔◌, true, sym, ◌∙◌, subst}
 use Rattle.q4_disk.specs.Told.{Sides}
 use Rattle.q4_disk.specs.Images.{on, other, Within}
 use Rattle.q4_disk.proofs.Moments.{weaker}
@@ -6,7 +6,7 @@ use Rattle.q4_store.specs.Reading.{Reads, ReadsAs}
 use Rattle.q4_store.specs.Parts.{IsShut}
 use Rattle.q4_store.specs.Looking.{HasOpen}
 use Rattle.q4_store.specs.Opening.{IsChosen, OpenFails}
-use Rattle.q4_store.proofs.Runs.{opened_ok, opened_err}
+use Rattle.q4_store.proofs.Runs.{opened_ok, opened_err, look_broke}
 use Rattle.q4_store.proofs.Finding.{ok_still, err_still, reads_on}
 use Rattle.q4_store.proofs.Quiet.{as_itself, reads_then}
 use Rattle.q4_store.proofs.opening.find.Goals as goal
@@ -45,7 +45,7 @@ returns-clause-known g c =
     ok_still c.find_by.result _ _ (λ (s : Sides) found. found.known ≡ true → Within images (λ d. IsShut (on (other found.side) d))) _ _ c.look.ensures.honest (λ h. (c.look.ensures.rests h).bytes) c.find_by.ensures.known
 
 pub returns-in_default-clause-device_err : goal.returns-in_default-clause-device_err
-returns-in_default-clause-device_err g c = record { calls = []; behind = inr refl; stops = c.in_default.ensures.device }
+returns-in_default-clause-device_err g c = look_broke g.D.Disk.told c.args.columns.now c.args.disk.now c.look.new.disk c.in_default.ensures.device
 
 pub returns-clause-device : goal.returns-clause-device
 returns-clause-device g c =
