@@ -1,11 +1,21 @@
 -- Runs of device calls, one after another.
-use Rattle.std.proofs.Common.{IsErr, ◌≡◌, ◌⊎◌, List, [], ◌∷◌, ◌++◌, Result, Ok, Err, refl, sym, ◌∙◌, ap, subst, inl, inr, append_assoc}
+use Rattle.std.proofs.Common.{◌≡◌, ◌≢◌, ◌⊎◌, ◌↔◌, true, Bool, IsTrue, IsErr, ℕ, List, [], ◌∷◌, ◌++◌, Result, Ok, Err, refl, sym, ◌∙◌, ap, subst, inl, inr, append_assoc}
 use Rattle.std.proofs.lemmas.List.{append-nil}
+use Rattle.std.specs.Result.{IfErr, OnOk}
+use Rattle.q4_value.specs.declared.column.Column.{Column}
+use Rattle.q4_record.specs.Side.{IsOpen}
 use Rattle.q4_disk.specs.declared.disk.DiskFailed.{DiskFailed}
-use Rattle.q4_disk.specs.Told.{Told}
+use Rattle.q4_disk.specs.declared.disk.Side.{Side}
+use Rattle.q4_disk.specs.Told.{Sides, Told}
+use Rattle.q4_disk.specs.Images.{size}
+use Rattle.q4_disk.specs.Calls.{IsCall}
 use Rattle.q4_store.specs.declared.fault.OpenFault.{OpenFault}
 use Rattle.q4_store.specs.declared.fault.OpenFault.TheVariants as fault
-use Rattle.q4_store.specs.Device.{DeviceCall, IsMade, AllMade, BrokeOff, Makes, StopsEarly, Stops}
+use Rattle.q4_store.specs.declared.head.Choice.TheVariants as choice
+use Rattle.q4_store.specs.Reading.{IsCurrent}
+use Rattle.q4_store.specs.Parts.{IsShut}
+use Rattle.q4_store.specs.Looking.{IsChoice}
+use Rattle.q4_store.specs.Device.{DeviceCall, IsMade, AllMade, BrokeOff, Makes, StopsEarly, Stops, load_calls, Size, Read, ReadsCurrent, WritesNew, IsBehindLook, HasOpened, HasStopped, look_calls, create_calls}
 
 module _ {D : Type 0} (told : D → Told) where
   -- one call
@@ -21,6 +31,10 @@ module _ {D : Type 0} (told : D → Told) where
   pub made_then : (first second : List DeviceCall) (a b c : D) → AllMade told first a b → AllMade told second b c → AllMade told (first ++ second) a c
   made_then [] second a b c is made = subst (λ (d : D). AllMade told second d c) is made
   made_then (call ∷ first) second a b c before made = (before.0, before.1, made_then first second before.0 b c before.2 made)
+
+  made_parts : (first second : List DeviceCall) (a c : D) → AllMade told (first ++ second) a c → (b : D) × AllMade told first a b × AllMade told second b c
+  made_parts [] second a c made = (a, refl, made)
+  made_parts (call ∷ first) second a c made = let rest = made_parts first second made.0 c made.2 in (rest.0, (made.0, made.1, rest.1), rest.2)
 
   -- it broke off in the first
   pub broke_first : (first second : List DeviceCall) (a b : D) → BrokeOff told first a b → BrokeOff told (first ++ second) a b
@@ -49,3 +63,126 @@ module _ {D : Type 0} (told : D → Told) where
   stops_then first second (fault.Schema column) a b c before stops = early_then first second a b c before stops
   stops_then first second (fault.Large limit) a b c before stops = early_then first second a b c before stops
   stops_then first second fault.Memory a b c before stops = early_then first second a b c before stops
+
+  -- it stopped behind a front for another reason than the disk
+  pub stops_early : (why : OpenFault) (front rest : List DeviceCall) (a b : D) → why ≢ fault.Disk → AllMade told front a b → Stops told (front ++ rest) why a b
+  stops_early fault.Disk front rest a b other made = absurd (other refl)
+  stops_early (fault.Damaged side place) front rest a b other made = record { front = front; rest = rest; parts = refl; made = made }
+  stops_early (fault.Schema column) front rest a b other made = record { front = front; rest = rest; parts = refl; made = made }
+  stops_early (fault.Large limit) front rest a b other made = record { front = front; rest = rest; parts = refl; made = made }
+  stops_early fault.Memory front rest a b other made = record { front = front; rest = rest; parts = refl; made = made }
+
+  is_early : (calls : List DeviceCall) (why : OpenFault) (a b : D) → why ≢ fault.Disk → Stops told calls why a b → StopsEarly told calls a b
+  is_early calls fault.Disk a b other stops = absurd (other refl)
+  is_early calls (fault.Damaged side place) a b other stops = stops
+  is_early calls (fault.Schema column) a b other stops = stops
+  is_early calls (fault.Large limit) a b other stops = stops
+  is_early calls fault.Memory a b other stops = stops
+
+  -- all was called, and what came behind asks the disk for nothing
+  pub all_called : {T : Type 0} (calls : List DeviceCall) (result : Result T OpenFault) (a b : D) → AllMade told calls a b → IfErr result (λ why. why ≢ fault.Disk) → IfErr result (λ why. Stops told calls why a b)
+  all_called calls (Ok x) a b made other = tt
+  all_called calls (Err why) a b made other = subst (λ (l : List DeviceCall). Stops told l why a b) (append-nil calls) (stops_early why calls [] a b other made)
+
+  -- a side's size was asked for, and it was read
+  pub load_stops : {T : Type 0} (side : Side) (n total : ℕ) (honest : Bool) (result : Result T OpenFault) (a b c : D) → (IsTrue honest → n ≡ total) → AllMade told (Size side ∷ []) a b → IfErr result (λ why. Stops told (Read side 0 n ∷ []) why b c)
+      → IfErr result (λ why. (k : ℕ) × (IsTrue honest → k ≡ total) × Stops told (load_calls side k) why a c)
+  load_stops side n total honest (Ok x) a b c whole sized stops = tt
+  load_stops side n total honest (Err why) a b c whole sized stops = (n, whole, stops_then (Size side ∷ []) (Read side 0 n ∷ []) why a b c sized stops)
+
+-- what is said of a call doesn't rest on its answer
+pub called_ok : {T : Type 0} (x : T) (old new : Told) → IsCall {T = T} {E = DiskFailed} (Ok x) old new → IsCall {T = Unit {0}} {E = DiskFailed} (Ok tt) old new
+called_ok x old new call = record {
+  counted = record { honest = call.counted.honest; faults = record { later = call.counted.faults.later; failed = tt; stayed = call.counted.faults.stayed }; calls = call.counted.calls };
+  writes = call.writes;
+  syncs = call.syncs;
+}
+
+pub called_err : {T : Type 0} (why : DiskFailed) (old new : Told) → IsCall {T = T} {E = DiskFailed} (Err why) old new → IsCall {T = Unit {0}} {E = DiskFailed} (Err why) old new
+called_err why old new call = record {
+  counted = record { honest = call.counted.honest; faults = record { later = call.counted.faults.later; failed = call.counted.faults.failed; stayed = tt }; calls = call.counted.calls };
+  writes = call.writes;
+  syncs = call.syncs;
+}
+
+-- the calls behind the look, by what the look leaves as it was
+pub current_still : (old mid : Told) (calls : List DeviceCall) → mid.honest ≡ old.honest → (IsTrue old.honest → mid.bytes ≡ old.bytes) → ReadsCurrent mid calls → ReadsCurrent old calls
+current_still old mid calls same bytes reads = record {
+  side = reads.side;
+  length = reads.length;
+  are = reads.are;
+  current = λ h. subst (IsCurrent reads.side) (bytes h) (reads.current (same ∙ h));
+  whole = λ h. reads.whole (same ∙ h) ∙ ap (size reads.side) (bytes h);
+}
+
+pub new_still : (columns : List Column) (old mid : Told) (calls : List DeviceCall) → mid.honest ≡ old.honest → (IsTrue old.honest → mid.bytes ≡ old.bytes) → WritesNew columns mid calls → WritesNew columns old calls
+new_still columns old mid calls same bytes writes = record {
+  known = writes.known;
+  are = writes.are;
+  closed_a = λ h is_open. writes.closed_a (same ∙ h) (subst (λ (s : Sides). IsOpen s.a) (sym (bytes h)) is_open);
+  closed_b = λ h is_open. writes.closed_b (same ∙ h) (subst (λ (s : Sides). IsOpen s.b) (sym (bytes h)) is_open);
+  known_is = λ h. subst (λ (s : Sides). (writes.known ≡ true) ↔ IsShut s.a) (bytes h) (writes.known_is (same ∙ h));
+}
+
+pub behind_still : (columns : List Column) (old mid : Told) (calls : List DeviceCall) → mid.honest ≡ old.honest → (IsTrue old.honest → mid.bytes ≡ old.bytes) → IsBehindLook columns mid calls → IsBehindLook columns old calls
+behind_still columns old mid calls same bytes (inl reads) = inl (current_still old mid calls same bytes reads)
+behind_still columns old mid calls same bytes (inr writes) = inr (new_still columns old mid calls same bytes writes)
+
+pub current_read : (told : Told) (side : Side) (known : Bool) (n : ℕ) → (IsTrue told.honest → IsChoice told.bytes (choice.Current side known)) → (IsTrue told.honest → n ≡ size side told.bytes) → ReadsCurrent told (load_calls side n)
+current_read told side known n chosen whole = record { side = side; length = n; are = refl; current = λ h. (chosen h).0; whole = whole }
+
+pub new_written : (columns : List Column) (told : Told) (known other : Bool) → (IsTrue told.honest → IsChoice told.bytes (choice.Neither known other)) → WritesNew columns told (create_calls columns known)
+new_written columns told known other chosen = record { known = known; are = refl; closed_a = λ h. (chosen h).0; closed_b = λ h. (chosen h).1; known_is = λ h. (chosen h).3 }
+
+-- opening goes on behind its look
+module _ {D : Type 0} (told : D → Told) (columns : List Column) where
+  pub reads_ok : {T E : Type 0} (result : Result T E) (a b : D) → OnOk result ((calls : List DeviceCall) × ReadsCurrent (told a) calls × AllMade told calls a b) → OnOk result ((calls : List DeviceCall) × IsBehindLook columns (told a) calls × AllMade told calls a b)
+  reads_ok (Ok x) a b made = (made.0, inl made.1, made.2)
+  reads_ok (Err why) a b made = tt
+
+  pub writes_ok : {T E : Type 0} (result : Result T E) (a b : D) → OnOk result ((calls : List DeviceCall) × WritesNew columns (told a) calls × AllMade told calls a b) → OnOk result ((calls : List DeviceCall) × IsBehindLook columns (told a) calls × AllMade told calls a b)
+  writes_ok (Ok x) a b made = (made.0, inr made.1, made.2)
+  writes_ok (Err why) a b made = tt
+
+  pub reads_err : {T : Type 0} (result : Result T OpenFault) (a b : D) → IfErr result (λ why. (calls : List DeviceCall) × ReadsCurrent (told a) calls × Stops told calls why a b)
+      → IfErr result (λ why. (calls : List DeviceCall) × (IsBehindLook columns (told a) calls ⊎ (calls ≡ [])) × Stops told calls why a b)
+  reads_err (Ok x) a b stops = tt
+  reads_err (Err why) a b stops = (stops.0, inl (inl stops.1), stops.2)
+
+  pub writes_err : {T : Type 0} (result : Result T OpenFault) (a b : D) → IfErr result (λ why. (calls : List DeviceCall) × WritesNew columns (told a) calls × Stops told calls why a b)
+      → IfErr result (λ why. (calls : List DeviceCall) × (IsBehindLook columns (told a) calls ⊎ (calls ≡ [])) × Stops told calls why a b)
+  writes_err (Ok x) a b stops = tt
+  writes_err (Err why) a b stops = (stops.0, inl (inr stops.1), stops.2)
+
+  still_stops : (old mid : Told) (calls : List DeviceCall) → mid.honest ≡ old.honest → (IsTrue old.honest → mid.bytes ≡ old.bytes) → IsBehindLook columns mid calls ⊎ (calls ≡ []) → IsBehindLook columns old calls ⊎ (calls ≡ [])
+  still_stops old mid calls same bytes (inl behind) = inl (behind_still columns old mid calls same bytes behind)
+  still_stops old mid calls same bytes (inr none) = inr none
+
+  pub opened_ok : {T E : Type 0} (result : Result T E) (a b c : D) → AllMade told look_calls a b → (told b).honest ≡ (told a).honest → (IsTrue (told a).honest → (told b).bytes ≡ (told a).bytes)
+      → OnOk result ((calls : List DeviceCall) × IsBehindLook columns (told b) calls × AllMade told calls b c) → OnOk result (HasOpened columns told a c)
+  opened_ok (Ok x) a b c look same bytes made = record { calls = made.0; behind = behind_still columns (told a) (told b) made.0 same bytes made.1; made = made_then told look_calls made.0 a b c look made.2 }
+  opened_ok (Err why) a b c look same bytes made = tt
+
+  pub opened_err : {T : Type 0} (result : Result T OpenFault) (a b c : D) → AllMade told look_calls a b → (told b).honest ≡ (told a).honest → (IsTrue (told a).honest → (told b).bytes ≡ (told a).bytes)
+      → IfErr result (λ why. (calls : List DeviceCall) × (IsBehindLook columns (told b) calls ⊎ (calls ≡ [])) × Stops told calls why b c) → IfErr result (λ why. HasStopped columns told why a c)
+  opened_err (Ok x) a b c look same bytes stops = tt
+  opened_err (Err why) a b c look same bytes stops = record {
+    calls = stops.0;
+    behind = still_stops (told a) (told b) stops.0 same bytes stops.1;
+    failed = λ disk. broke_then told look_calls stops.0 a b c look (subst (λ w. Stops told stops.0 w b c) disk stops.2);
+    refused = λ other. (b, look, is_early told stops.0 why b c other stops.2);
+  }
+
+  -- it opened, and memory was wanted behind it
+  pub opened_unheld : (a b : D) → HasOpened columns told a b → HasStopped columns told fault.Memory a b
+  opened_unheld a b opened = record {
+    calls = opened.calls;
+    behind = inl opened.behind;
+    failed = λ wrong. absurd (cc wrong);
+    refused = λ other. let parts = made_parts told look_calls opened.calls a b opened.made in
+        (parts.0, parts.1, record { front = opened.calls; rest = []; parts = sym (append-nil opened.calls); made = parts.2 });
+  }
+
+  -- the look broke off
+  pub look_broke : (a b : D) → BrokeOff told look_calls a b → HasStopped columns told fault.Disk a b
+  look_broke a b off = record { calls = []; behind = inr refl; failed = λ disk. off; refused = λ other. absurd (other refl) }

@@ -1,5 +1,5 @@
 -- The device calls of a run, in their order.
-use Rattle.std.specs.Prelude.{◌≡◌, ◌-◌, ◌⊎◌, ◌↔◌, ℕ, Bool, true, false, IsTrue, List, [], ◌∷◌, ◌++◌, Result, Ok, Err, length, replicate}
+use Rattle.std.specs.Prelude.{◌≡◌, ◌≢◌, ◌-◌, ◌⊎◌, ◌↔◌, ℕ, Bool, true, false, IsTrue, List, [], ◌∷◌, ◌++◌, Result, Ok, Err, length, replicate}
 use Rattle.q4_value.specs.declared.column.Column.{Column}
 use Rattle.q4_table.specs.TableState.{new_table}
 use Rattle.q4_record.specs.Written.{base_bytes}
@@ -127,8 +127,9 @@ pub record HasOpened {D : Type 0} (columns : List Column) (told : D → Told) (o
   pub behind : IsBehindLook columns (told old) calls
   pub made : AllMade told (look_calls ++ calls) old new
 
--- One that is refused stopped in them, or in its look.
+-- One that is refused broke off in them, or in its look, where the disk failed. For any other reason it stops behind its look.
 pub record HasStopped {D : Type 0} (columns : List Column) (told : D → Told) (why : OpenFault) (old new : D) : Type 0 where
   pub calls : List DeviceCall
   pub behind : IsBehindLook columns (told old) calls ⊎ (calls ≡ [])
-  pub stops : Stops told (look_calls ++ calls) why old new
+  pub failed : why ≡ fault.Disk → BrokeOff told (look_calls ++ calls) old new
+  pub refused : why ≢ fault.Disk → (mid : D) × AllMade told look_calls old mid × StopsEarly told calls mid new

@@ -1,9 +1,10 @@
-ghost use Rattle.std.specs.Prelude.{◌≡◌, ◌≢◌, ◌+◌, ◌≤◌, ◌↔◌, ℕ, List, IsTrue, IfOk, IfErr, OnOk, OnErr, length, take, codes};
-ghost use Rattle.q4_record.specs.Side.{told_at, magic_of};
+ghost use Rattle.std.specs.Prelude.{◌≡◌, ◌≢◌, ◌+◌, ◌≤◌, ◌↔◌, ◌∷◌, [], ℕ, List, IsTrue, IfOk, IfErr, OnOk, OnErr, length, take, codes};
+ghost use Rattle.q4_record.specs.Side.{base_at, told_at, magic_of};
 ghost use Rattle.q4_disk.specs.Told.{Sides, Told};
 ghost use Rattle.q4_disk.specs.Images.{on};
 ghost use Rattle.q4_disk.specs.Calls.{CountsFault};
 ghost use Rattle.q4_store.specs.Looking.{AddsNone, IsHead, IsChoice, IsNoChoice};
+ghost use Rattle.q4_store.specs.Device.{DeviceCall, Read, Makes};
 
 use crate::fault::OpenFault;
 use q4_disk::{Disk, DiskFailed, Side};
@@ -29,6 +30,7 @@ pub(crate) fn read_head<D: Disk>(disk: &mut D, side: Side) -> Result<Head, DiskF
     ensures faults { CountsFault result (D.told disk.old).faults (D.told disk.new).faults }
     ensures rests { IsTrue (D.told disk.old).honest → AddsNone (D.told disk.old) (D.told disk.new) }
     ensures writes { (D.told disk.new).writes ≡ (D.told disk.old).writes }
+    ensures device { Makes D.told (Read side 0 base_at ∷ []) result disk.old disk.new }
     ensures head { IfOk result (λ head. IsTrue (D.told disk.old).honest → IsHead (on side (D.told disk.old).bytes) head) }
 {
     let mut bytes = [0; HEAD_SIZE];

@@ -1,10 +1,11 @@
-ghost use Rattle.std.specs.Prelude.{◌≡◌, ◌≤◌, ◌<◌, ◌≢◌, ℕ, List, IsTrue, IfOk, IfErr, OnOk, length};
+ghost use Rattle.std.specs.Prelude.{◌≡◌, ◌≤◌, ◌<◌, ◌≢◌, ◌∷◌, [], ℕ, List, IsTrue, IfOk, IfErr, OnOk, length};
 ghost use Rattle.q4_value.specs.Names.{AreColumns};
 ghost use Rattle.q4_record.specs.Side.{IsOpen, Side as IsSide};
 ghost use Rattle.q4_disk.specs.Told.{Sides, Told};
-ghost use Rattle.q4_disk.specs.Images.{on};
+ghost use Rattle.q4_disk.specs.Images.{on, size};
 ghost use Rattle.q4_store.specs.Opening.{CountsOpen};
 ghost use Rattle.q4_store.specs.Looking.{AddsNone, LoadFails};
+ghost use Rattle.q4_store.specs.Device.{DeviceCall, Read, AllMade, Stops, load_calls};
 
 use crate::fault::OpenFault;
 use q4_disk::{Disk, Side};
@@ -38,6 +39,9 @@ pub(crate) fn load<D: Disk>(
     ensures faults { IfErr result (λ fault. CountsOpen fault (D.told disk.old).faults (D.told disk.new).faults) }
     ensures rests { IsTrue (D.told disk.old).honest → AddsNone (D.told disk.old) (D.told disk.new) }
     ensures writes { (D.told disk.new).writes ≡ (D.told disk.old).writes }
+    // It asks for the side's size and then for so many bytes.
+    ensures device { IfOk result (λ loaded. (n : ℕ) × (IsTrue (D.told disk.old).honest → n ≡ size side (D.told disk.old).bytes) × AllMade D.told (load_calls side n) disk.old disk.new) }
+    ensures device_err { IfErr result (λ fault. (n : ℕ) × (IsTrue (D.told disk.old).honest → n ≡ size side (D.told disk.old).bytes) × Stops D.told (load_calls side n) fault disk.old disk.new) }
     ensures sound { IfOk result (λ loaded. (bytes : List ℕ) × IsSide columns.now bytes loaded.table loaded.generation loaded.end) }
     ensures loaded { IfOk result (λ loaded. IsTrue (D.told disk.old).honest → IsSide columns.now (on side (D.told disk.old).bytes) loaded.table loaded.generation loaded.end) }
     ensures fails { IfErr result (λ fault. IsTrue (D.told disk.old).honest → IsOpen (on side (D.told disk.old).bytes) → LoadFails columns.now (on side (D.told disk.old).bytes) side fault) }
@@ -67,6 +71,8 @@ fn load_into<D: Disk>(
     ensures faults { IfErr result (λ fault. CountsOpen fault (D.told disk.old).faults (D.told disk.new).faults) }
     ensures rests { IsTrue (D.told disk.old).honest → AddsNone (D.told disk.old) (D.told disk.new) }
     ensures writes { (D.told disk.new).writes ≡ (D.told disk.old).writes }
+    ensures device { IfOk result (λ loaded. AllMade D.told (Read side 0 (length bytes.old) ∷ []) disk.old disk.new) }
+    ensures device_err { IfErr result (λ fault. Stops D.told (Read side 0 (length bytes.old) ∷ []) fault disk.old disk.new) }
     ensures sound { IfOk result (λ loaded. (bytes : List ℕ) × IsSide columns.now bytes loaded.table loaded.generation loaded.end) }
     ensures loaded { IfOk result (λ loaded. IsTrue (D.told disk.old).honest → IsSide columns.now (on side (D.told disk.old).bytes) loaded.table loaded.generation loaded.end) }
     ensures fails { IfErr result (λ fault. IsTrue (D.told disk.old).honest → IsOpen (on side (D.told disk.old).bytes) → LoadFails columns.now (on side (D.told disk.old).bytes) side fault) }

@@ -1,6 +1,7 @@
-ghost use Rattle.std.specs.Prelude.{◌≡◌, ◌≤◌, ◌*◌, ◌↔◌, ℕ, List, [], true, IsTrue, IfOk, IfErr, OnOk, vec_capacity};
+ghost use Rattle.std.specs.Prelude.{◌≡◌, ◌≤◌, ◌*◌, ◌↔◌, ◌⊎◌, ◌∷◌, ℕ, List, [], true, IsTrue, IfOk, IfErr, OnOk, vec_capacity};
 ghost use Rattle.q4_value.specs.Names.{AreColumns};
 ghost use Rattle.q4_record.specs.Side.{Side as IsSide};
+ghost use Rattle.q4_disk.specs.declared.disk.Side.TheVariants.{A, B};
 ghost use Rattle.q4_disk.specs.Told.{Sides, Told};
 ghost use Rattle.q4_disk.specs.Images.{on, other, Within};
 ghost use Rattle.q4_disk.specs.Time.{LeavesOnly};
@@ -10,6 +11,7 @@ ghost use Rattle.q4_store.specs.Parts.{IsShut, IsReady};
 ghost use Rattle.q4_store.specs.Store.{IsSettled};
 ghost use Rattle.q4_store.specs.Opening.{CountsOpen, IsChosen, OpenFails};
 ghost use Rattle.q4_store.specs.Looking.{AddsNone, OnlyReads, HasOpen, IsStill, IsHead, IsChoice};
+ghost use Rattle.q4_store.specs.Device.{DeviceCall, Sync, AllMade, Makes, Stops, ReadsCurrent, WritesNew, IsBehindLook, HasOpened, HasStopped, look_calls};
 
 use crate::creating::{create, make_draft};
 use crate::fault::OpenFault;
@@ -56,6 +58,9 @@ pub(crate) fn find<D: Disk>(
     ensures ready { IfOk result (λ found. IsTrue (D.told disk.old).honest → Within (D.told disk.new).images (IsReady found.known (other found.side))) }
     ensures known_is { IfOk result (λ found. IsTrue (D.told disk.old).honest → (found.known ≡ true) ↔ IsShut (on (other found.side) (D.told disk.old).bytes)) }
     ensures fails { IfErr result (λ fault. IsTrue (D.told disk.old).honest → OpenFails columns.now (D.told disk.old).bytes fault) }
+    // Its device calls: those of the look, and those behind it.
+    ensures device { OnOk result (HasOpened columns.now D.told disk.old disk.new) }
+    ensures device_err { IfErr result (λ fault. HasStopped columns.now D.told fault disk.old disk.new) }
 {
     let Ok((a, b)) = look(disk) else {
         return Err(OpenFault::Disk);
@@ -87,6 +92,8 @@ fn find_by<D: Disk>(
     ensures ready { IfOk result (λ found. IsTrue (D.told disk.old).honest → Within (D.told disk.new).images (IsReady found.known (other found.side))) }
     ensures known_is { IfOk result (λ found. IsTrue (D.told disk.old).honest → (found.known ≡ true) ↔ IsShut (on (other found.side) (D.told disk.old).bytes)) }
     ensures fails { IfErr result (λ fault. IsTrue (D.told disk.old).honest → OpenFails columns.now (D.told disk.old).bytes fault) }
+    ensures device { OnOk result ((calls : List DeviceCall) × IsBehindLook columns.now (D.told disk.old) calls × AllMade D.told calls disk.old disk.new) }
+    ensures device_err { IfErr result (λ fault. (calls : List DeviceCall) × (IsBehindLook columns.now (D.told disk.old) calls ⊎ (calls ≡ [])) × Stops D.told calls fault disk.old disk.new) }
 {
     match choose(a, b) {
         Ok(Choice::Current { side, known }) => find_current(alloc, disk, side, known, columns),
@@ -102,6 +109,7 @@ fn look<D: Disk>(disk: &mut D) -> Result<(Head, Head), DiskFailed>
     ensures rests { IsTrue (D.told disk.old).honest → AddsNone (D.told disk.old) (D.told disk.new) }
     ensures writes { (D.told disk.new).writes ≡ (D.told disk.old).writes }
     ensures still { OnOk result (IsTrue (D.told disk.old).honest → IsStill (D.told disk.new)) }
+    ensures device { Makes D.told look_calls result disk.old disk.new }
     ensures heads { IfOk result (λ heads. IsTrue (D.told disk.old).honest → IsHead (D.told disk.old).bytes.a heads.0 × IsHead (D.told disk.old).bytes.b heads.1) }
 {
     sync_both(disk)?;
@@ -116,6 +124,7 @@ fn sync_both<D: Disk>(disk: &mut D) -> Result<(), DiskFailed>
     ensures rests { IsTrue (D.told disk.old).honest → AddsNone (D.told disk.old) (D.told disk.new) }
     ensures writes { (D.told disk.new).writes ≡ (D.told disk.old).writes }
     ensures still { OnOk result (IsTrue (D.told disk.old).honest → IsStill (D.told disk.new)) }
+    ensures device { Makes D.told (Sync A ∷ Sync B ∷ []) result disk.old disk.new }
 {
     disk.sync(Side::A)?;
     disk.sync(Side::B)?;
@@ -146,6 +155,8 @@ fn find_current<D: Disk>(
     ensures ready { IfOk result (λ found. IsTrue (D.told disk.old).honest → Within (D.told disk.new).images (IsReady found.known (other found.side))) }
     ensures known_is { IfOk result (λ found. IsTrue (D.told disk.old).honest → (found.known ≡ true) ↔ IsShut (on (other found.side) (D.told disk.old).bytes)) }
     ensures fails { IfErr result (λ fault. IsTrue (D.told disk.old).honest → OpenFails columns.now (D.told disk.old).bytes fault) }
+    ensures device { OnOk result ((calls : List DeviceCall) × ReadsCurrent (D.told disk.old) calls × AllMade D.told calls disk.old disk.new) }
+    ensures device_err { IfErr result (λ fault. (calls : List DeviceCall) × ReadsCurrent (D.told disk.old) calls × Stops D.told calls fault disk.old disk.new) }
 {
     match load(alloc, disk, side, columns) {
         Ok(loaded) => Ok(Found {
@@ -181,6 +192,8 @@ fn make_new<D: Disk>(
     ensures ready { IfOk result (λ found. IsTrue (D.told disk.old).honest → Within (D.told disk.new).images (IsReady found.known (other found.side))) }
     ensures known_is { IfOk result (λ found. IsTrue (D.told disk.old).honest → (found.known ≡ true) ↔ IsShut (on (other found.side) (D.told disk.old).bytes)) }
     ensures fails { IfErr result (λ fault. IsTrue (D.told disk.old).honest → OpenFails columns.now (D.told disk.old).bytes fault) }
+    ensures device { OnOk result ((calls : List DeviceCall) × WritesNew columns.now (D.told disk.old) calls × AllMade D.told calls disk.old disk.new) }
+    ensures device_err { IfErr result (λ fault. (calls : List DeviceCall) × WritesNew columns.now (D.told disk.old) calls × Stops D.told calls fault disk.old disk.new) }
 {
     let Ok(draft) = make_draft(alloc, columns) else {
         return Err(OpenFault::Memory);

@@ -12,7 +12,7 @@ ghost use Rattle.q4_store.specs.Parts.{IsShut};
 ghost use Rattle.q4_store.specs.Looking.{OnlyReads, HasOpen};
 ghost use Rattle.q4_store.specs.Opening.{IsChosen, OpenFails, CountsOpen};
 ghost use Rattle.q4_store.specs.Commit.{sealed};
-ghost use Rattle.q4_store.specs.Device.{Makes, commit_calls};
+ghost use Rattle.q4_store.specs.Device.{Makes, HasOpened, HasStopped, commit_calls};
 ghost use Rattle.q4_store.specs.Content.{Content, row_added, row_ended, with_change, all_committed, IsPrefix};
 ghost use Rattle.q4_store.specs.Lengths.{change_size, waiting_size, change_cost};
 ghost use Rattle.q4_store.specs.Store.{StandsFor, TakesRow, HasRow, IsOver, IsRefused, length_of, cost_of, pending_length, batch_size};
@@ -94,6 +94,10 @@ impl<D: Disk> Store<D> {
         ensures fails { IfErr result (λ refused. IsTrue (D.told disk).honest → OpenFails def.now.columns (D.told disk).bytes refused.0) }
         ensures calm { IfOk result (λ opened. (D.told opened.0.disk).faults ≡ (D.told disk).faults) }
         ensures faults { IfErr result (λ refused. CountsOpen refused.0 (D.told disk).faults (D.told refused.1).faults) }
+        // Its device calls, in their order: both sides are synced, their first bytes are read, and then the side that counts, or
+        // the three parts of a new table are written, of at most nine calls.
+        ensures device { IfOk result (λ opened. HasOpened def.now.columns D.told disk opened.0.disk) }
+        ensures device_err { IfErr result (λ refused. HasStopped def.now.columns D.told refused.0 disk refused.1) }
         ensures honest { IfOk result (λ opened. (D.told opened.0.disk).honest ≡ (D.told disk).honest) }
         ensures honest_err { IfErr result (λ refused. (D.told refused.1).honest ≡ (D.told disk).honest) }
     {

@@ -6,6 +6,7 @@ use Rattle.q4_store.specs.Reading.{Reads, ReadsAs}
 use Rattle.q4_store.specs.Parts.{IsShut, IsReady}
 use Rattle.q4_store.specs.Looking.{HasOpen}
 use Rattle.q4_store.specs.Opening.{IsChosen, OpenFails}
+use Rattle.q4_store.proofs.Runs.{opened_ok, opened_err, look_broke}
 use Rattle.q4_store.proofs.Finding.{ok_still, err_still, reads_on}
 use Rattle.q4_store.proofs.Quiet.{as_itself, reads_then}
 use Rattle.q4_store.proofs.opening.find.Goals as goal
@@ -42,3 +43,14 @@ pub returns-clause-ready : goal.returns-clause-ready
 returns-clause-ready g c =
     let images = (g.D.Disk.told c.find_by.new.disk).images in
     ok_still c.find_by.result _ _ (λ (s : Sides) found. Within images (IsReady found.known (other found.side))) _ _ c.look.ensures.honest (λ h. (c.look.ensures.rests h).bytes) c.find_by.ensures.ready
+
+pub returns-in_default-clause-device_err : goal.returns-in_default-clause-device_err
+returns-in_default-clause-device_err g c = look_broke g.D.Disk.told c.args.columns.now c.args.disk.now c.look.new.disk c.in_default.ensures.device
+
+pub returns-clause-device : goal.returns-clause-device
+returns-clause-device g c =
+    opened_ok g.D.Disk.told c.args.columns.now c.find_by.result c.args.disk.now c.look.new.disk c.find_by.new.disk c.in-Ok.ensures.device c.look.ensures.honest (λ h. (c.look.ensures.rests h).bytes) c.find_by.ensures.device
+
+pub returns-clause-device_err : goal.returns-clause-device_err
+returns-clause-device_err g c =
+    opened_err g.D.Disk.told c.args.columns.now c.find_by.result c.args.disk.now c.look.new.disk c.find_by.new.disk c.in-Ok.ensures.device c.look.ensures.honest (λ h. (c.look.ensures.rests h).bytes) c.find_by.ensures.device_err

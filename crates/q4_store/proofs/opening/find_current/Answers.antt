@@ -1,4 +1,6 @@
 use Rattle.std.proofs.Common.{inl}
+use Rattle.q4_store.specs.Device.{load_calls}
+use Rattle.q4_store.proofs.Runs.{current_read}
 use Rattle.q4_store.proofs.Finding.{settled_found, load_fails}
 use Rattle.q4_store.proofs.opening.find_current.Goals as goal
 
@@ -16,3 +18,13 @@ returns-in-Ok-clause-side g c h = inl (c.requires.chosen h).0
 
 pub returns-in-Ok-clause-reads : goal.returns-in-Ok-clause-reads
 returns-in-Ok-clause-reads g c h = inl (record { side = c.args.side; len = c.in-Ok.loaded.end; current = (c.requires.chosen h).0; stands = c.in-Ok.ensures.loaded h })
+
+pub returns-in-Ok-clause-device : goal.returns-in-Ok-clause-device
+returns-in-Ok-clause-device g c =
+    let loads = c.in-Ok.ensures.device in
+    (load_calls c.args.side loads.0, current_read (g.D.Disk.told c.args.disk.now) c.args.side c.args.known loads.0 c.requires.chosen loads.1, loads.2)
+
+pub returns-in-Err-clause-device_err : goal.returns-in-Err-clause-device_err
+returns-in-Err-clause-device_err g c =
+    let loads = c.in-Err.ensures.device_err in
+    (load_calls c.args.side loads.0, current_read (g.D.Disk.told c.args.disk.now) c.args.side c.args.known loads.0 c.requires.chosen loads.1, loads.2)

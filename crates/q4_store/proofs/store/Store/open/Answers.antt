@@ -1,6 +1,7 @@
 use Rattle.std.proofs.Common.{refl, sym, ◌∙◌}
 use Rattle.q4_record.proofs.Leading.{sound_side}
 use Rattle.q4_store.proofs.Drafts.{are_columns}
+use Rattle.q4_store.proofs.Runs.{opened_unheld}
 use Rattle.q4_store.proofs.Opened.{generation_within, opened_held, opened_stands}
 use Rattle.q4_store.proofs.store.Store.open.Goals as goal
 
@@ -23,3 +24,6 @@ pub returns-clause-generation : goal.returns-clause-generation
 returns-clause-generation g c =
     let found = c.in-Ok.ensures in
     generation_within c.args.def.now.columns found.sound.0 c.in-Ok.found.table c.in-Ok.found.generation c.in-Ok.found.end found.sound.1
+
+pub returns-in_default-clause-device_err : goal.returns-in_default-clause-device_err
+returns-in_default-clause-device_err g c = opened_unheld g.D.Disk.told c.args.def.now.columns c.args.disk c.find.new.disk c.in-Ok.ensures.device
