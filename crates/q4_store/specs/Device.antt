@@ -16,7 +16,7 @@ use Rattle.q4_store.specs.Reading.{IsCurrent}
 use Rattle.q4_store.specs.Parts.{IsShut}
 use Rattle.q4_store.specs.Looking.{header_bytes}
 
--- one device call, with what it is asked
+-- one device call of a side: its size, a read at an offset of at most so many bytes, a write at an offset, a cut to a length, a sync
 pub data DeviceCall : Type 0 where
   Size : Side → DeviceCall
   Read : Side → ℕ → ℕ → DeviceCall
