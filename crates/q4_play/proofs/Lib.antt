@@ -6,3 +6,9 @@ pub mod Closing
 pub mod Taking
 pub mod Causing
 pub mod Gone
+pub mod Fresh
+pub mod Own
+pub mod Seats
+pub mod Course
+pub mod Wholes
+pub mod Since

@@ -7,7 +7,7 @@ mod plays;
 mod seating;
 mod turns;
 
-pub use laws::closed_sessions_stay_closed;
+pub use laws::{closed_sessions_stay_closed, labels_have_whole_sessions};
 pub use plays::{PlayEnd, play};
 
 #[cfg(test)]
