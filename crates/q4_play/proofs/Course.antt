@@ -10,11 +10,11 @@ use Rattle.q4_machine.specs.Parts.{of_caller, calls_of}
 use Rattle.q4_machine.specs.Patience.{PatienceState}
 use Rattle.q4_proto.specs.Told as told
 use Rattle.q4_proto.specs.Told.{Told, Bye}
-use Rattle.q4_session.specs.Exchanges.{Exchange, IsExchange}
+use Rattle.q4_session.specs.Exchanges.{IsExchange}
 use Rattle.q4_play.specs.Labels.{IsLabel, last_label, session_at, with_seat}
 use Rattle.q4_play.specs.Turns.{Host, Spoken, Turn, Unlabelled, Left, Spoke, IsTurn, IsSpoken, AreTurns, Takes, Leaves, client_of, spoken_grown, spoken_seating, grown_of, grown_by, behind_outcome, seating_behind, seating_after, patience_behind}
 use Rattle.q4_play.specs.Plays.{Stop, Input, Refuses, CutUnlabelled, CutSpoken, IsStop, AreClosed, stop_grown, stop_seating}
-use Rattle.q4_play.specs.Whole.{cut_turn, up_to_bye, commands_of, closing_entry, AnswersIn}
+use Rattle.q4_play.specs.Whole.{cut_turn, up_to_bye, commands_of, closing_entry, AreAnswered}
 use Rattle.q4_play.proofs.Placing.{inside_seats, none_opened}
 use Rattle.q4_play.proofs.Fresh.{IsOwn, all_front, all_back}
 use Rattle.q4_play.proofs.Own.{own_calls, own_append, own_none, own_empty, own_other, own_all, own_closed, own_closed_other, closes_other, opening_session, opening_other, exchange_session}
@@ -141,52 +141,56 @@ abbrev pub said : ℕ → List Spoken → List Entry
 said caller commands = flat_map (λ (spoken : Spoken). calls_of caller spoken.exchange.grown) commands
 
 -- a command of the session behind the first
-pub record IsLater (host : Host) (history : List Entry) (s : ℕ) (spoken : Spoken) : Type 0 where
+pub record IsLater (s : ℕ) (spoken : Spoken) : Type 0 where
   pub same : spoken.session ≡ s
   pub once : spoken.opening ≡ []
-  pub answered : AnswersIn host history s spoken.exchange
 
 -- The label stays in its session over this turn.
-record Stays (host : Host) (history : List Entry) (s label : ℕ) (seating : List (Option ℕ)) (grown : List Entry) (turn : Turn) : Type 0 where
+record Stays (host : Host) (history : List Entry) (s label : ℕ) (seating : List (Option ℕ)) (before grown : List Entry) (turn : Turn) : Type 0 where
   some : List Spoken
-  are : All (IsLater host history s) some
+  are : All (IsLater s) some
+  answered : (rest : List Spoken) → AreAnswered host history s (before ++ grown) rest → AreAnswered host history s before (some ++ rest)
   calls : own_calls s host.caller grown ≡ said host.caller some
   seat : OnlyAt s (label - 1) seating
   commands : (rest : List Turn) → commands_of label (turn ∷ rest) ≡ some ++ commands_of label rest
 
 -- It leaves the session at this turn.
-record Quits (host : Host) (history : List Entry) (s label : ℕ) (seating : List (Option ℕ)) (grown : List Entry) (turn : Turn) : Type 0 where
+record Quits (host : Host) (history : List Entry) (s label : ℕ) (seating : List (Option ℕ)) (before grown : List Entry) (turn : Turn) : Type 0 where
   some : List Spoken
-  are : All (IsLater host history s) some
+  are : All (IsLater s) some
+  answered : AreAnswered host history s before some
   calls : own_calls s host.caller grown ≡ said host.caller some ++ closing_entry host.caller s ∷ []
   gone : Nowhere s seating
   commands : (rest : List Turn) → commands_of label (turn ∷ rest) ≡ some
 
 -- From here on to the end of the play: some commands, and the closing.
-pub record Ends (host : Host) (history : List Entry) (s label : ℕ) (grown : List Entry) (turns : List Turn) : Type 0 where
+pub record Ends (host : Host) (history : List Entry) (s label : ℕ) (before grown : List Entry) (turns : List Turn) : Type 0 where
   pub some : List Spoken
-  pub are : All (IsLater host history s) some
+  pub are : All (IsLater s) some
+  pub answered : AreAnswered host history s before some
   pub calls : own_calls s host.caller grown ≡ said host.caller some ++ closing_entry host.caller s ∷ []
   pub commands : commands_of label turns ≡ some
 
-stays_ends : (host : Host) (history : List Entry) (s label : ℕ) (seating : List (Option ℕ)) (grown more : List Entry) (turn : Turn) (turns : List Turn) → Stays host history s label seating grown turn → Ends host history s label more turns
-    → Ends host history s label (grown ++ more) (turn ∷ turns)
-stays_ends host history s label seating grown more turn turns stays ends =
+stays_ends : (host : Host) (history : List Entry) (s label : ℕ) (seating : List (Option ℕ)) (before grown more : List Entry) (turn : Turn) (turns : List Turn) → Stays host history s label seating before grown turn → Ends host history s label (before ++ grown) more turns
+    → Ends host history s label before (grown ++ more) (turn ∷ turns)
+stays_ends host history s label seating before grown more turn turns stays ends =
     let c = host.caller in
     let close : List Entry = closing_entry c s ∷ [] in
     record {
       some = stays.some ++ ends.some;
-      are = All-append (IsLater host history s) stays.some ends.some stays.are ends.are;
+      are = All-append (IsLater s) stays.some ends.some stays.are ends.are;
+      answered = stays.answered ends.some ends.answered;
       calls = own_append s c grown more ∙ ap (λ (h : List Entry). h ++ own_calls s c more) stays.calls ∙ ap (λ (h : List Entry). said c stays.some ++ h) ends.calls ∙ sym (append_assoc (said c stays.some) (said c ends.some) close)
           ∙ ap (λ (h : List Entry). h ++ close) (sym (flat_map-append (λ (spoken : Spoken). calls_of c spoken.exchange.grown) stays.some ends.some));
       commands = stays.commands turns ∙ ap (λ (rest : List Spoken). stays.some ++ rest) ends.commands;
     }
 
-quits_ends : (host : Host) (history : List Entry) (s label : ℕ) (seating : List (Option ℕ)) (grown more : List Entry) (turn : Turn) (turns : List Turn) → Quits host history s label seating grown turn → own_calls s host.caller more ≡ []
-    → Ends host history s label (grown ++ more) (turn ∷ turns)
-quits_ends host history s label seating grown more turn turns quits none = record {
+quits_ends : (host : Host) (history : List Entry) (s label : ℕ) (seating : List (Option ℕ)) (before grown more : List Entry) (turn : Turn) (turns : List Turn) → Quits host history s label seating before grown turn → own_calls s host.caller more ≡ []
+    → Ends host history s label before (grown ++ more) (turn ∷ turns)
+quits_ends host history s label seating before grown more turn turns quits none = record {
   some = quits.some;
   are = quits.are;
+  answered = quits.answered;
   calls = own_append s host.caller grown more ∙ ap (λ (h : List Entry). own_calls s host.caller grown ++ h) none ∙ append-nil (own_calls s host.caller grown) ∙ quits.calls;
   commands = quits.commands turns;
 }
@@ -242,21 +246,55 @@ takes_seated : (host : Host) (before opening : List Entry) (seat : Option ℕ) (
 takes_seated host before opening None s k is takes = absurd (cc is)
 takes_seated host before opening (Some seated) s k is takes = (sym takes.0 ∙ cc is, takes.1)
 
-answers_later : (host : Host) (history before opening : List Entry) (patience : PatienceState) (session s : ℕ) (exchange : Exchange) (after : List Entry) → history ≡ before ++ ((opening ++ exchange.grown) ++ after)
-    → IsExchange (client_of host session) (before ++ opening) patience exchange → session ≡ s → AnswersIn host history s exchange
-answers_later host history before opening patience session s exchange after cut answers same = record {
-  before = before ++ opening;
-  patience = patience;
-  later = after;
-  cut = cut ∙ sym (append_assoc before (opening ++ exchange.grown) after) ∙ ap (λ (h : List Entry). h ++ after) (sym (append_assoc before opening exchange.grown));
-  answers = subst (λ (k : ℕ). IsExchange (client_of host k) (before ++ opening) patience exchange) same answers;
-}
+-- what was answered behind more, was answered behind less
+pub answered_front : (host : Host) (history : List Entry) (s : ℕ) (front more : List Entry) (commands : List Spoken) → AreAnswered host history s (front ++ more) commands → AreAnswered host history s front commands
+answered_front host history s front more [] all = tt
+answered_front host history s front more (spoken ∷ rest) (here, behind) =
+    let join : (front ++ more) ++ here.between ≡ front ++ (more ++ here.between) = append_assoc front more here.between in (
+      record {
+        between = more ++ here.between;
+        patience = here.patience;
+        later = here.later;
+        cut = here.cut ∙ ap (λ (h : List Entry). h ++ spoken.exchange.grown ++ here.later) join;
+        answers = subst (λ (h : List Entry). IsExchange (client_of host s) h here.patience spoken.exchange) join here.answers;
+      },
+      subst (λ (h : List Entry). AreAnswered host history s (h ++ spoken.exchange.grown) rest) join behind,
+    )
 
-is_later : (host : Host) (history before : List Entry) (seating : List (Option ℕ)) (patience : PatienceState) (spoken : Spoken) (after : List Entry) (s : ℕ) → history ≡ before ++ (spoken_grown spoken ++ after) → IsSpoken host before seating patience spoken
-    → session_at seating spoken.label ≡ Some s → IsLater host history s spoken
-is_later host history before seating patience spoken after s cut is at =
+-- a command, and what was answered behind it
+pub answered_now : (host : Host) (history front : List Entry) (patience : PatienceState) (spoken : Spoken) (s : ℕ) (after : List Entry) (rest : List Spoken) → history ≡ front ++ (spoken.exchange.grown ++ after)
+    → IsExchange (client_of host spoken.session) front patience spoken.exchange → spoken.session ≡ s → AreAnswered host history s (front ++ spoken.exchange.grown) rest → AreAnswered host history s front (spoken ∷ rest)
+answered_now host history front patience spoken s after rest cut answers same behind =
+    let empty : front ≡ front ++ [] = sym (append-nil front) in (
+      record {
+        between = [];
+        patience = patience;
+        later = after;
+        cut = cut ∙ sym (append_assoc front spoken.exchange.grown after) ∙ ap (λ (h : List Entry). h ++ spoken.exchange.grown ++ after) empty;
+        answers = subst (λ (h : List Entry). IsExchange (client_of host s) h patience spoken.exchange) empty (subst (λ (k : ℕ). IsExchange (client_of host k) front patience spoken.exchange) same answers);
+      },
+      subst (λ (h : List Entry). AreAnswered host history s (h ++ spoken.exchange.grown) rest) empty behind,
+    )
+
+-- the same behind its opening, and before a closing
+pub answered_turn : (host : Host) (history before : List Entry) (patience : PatienceState) (spoken : Spoken) (s : ℕ) (closing after : List Entry) (rest : List Spoken) → history ≡ before ++ (spoken.opening ++ (spoken.exchange.grown ++ (closing ++ after)))
+    → IsExchange (client_of host spoken.session) (before ++ spoken.opening) patience spoken.exchange → spoken.session ≡ s → AreAnswered host history s (before ++ (spoken_grown spoken ++ closing)) rest → AreAnswered host history s (before ++ spoken.opening) (spoken ∷ rest)
+answered_turn host history before patience spoken s closing after rest cut answers same behind =
+    let front : List Entry = before ++ spoken.opening in
+    let grown : List Entry = spoken.exchange.grown in
+    let join : before ++ (spoken_grown spoken ++ closing) ≡ (front ++ grown) ++ closing = sym (append_assoc before (spoken_grown spoken) closing) ∙ ap (λ (h : List Entry). h ++ closing) (sym (append_assoc before spoken.opening grown)) in
+    answered_now host history front patience spoken s (closing ++ after) rest (cut ∙ sym (append_assoc before spoken.opening (grown ++ (closing ++ after)))) answers same
+    (answered_front host history s (front ++ grown) closing rest (subst (λ (h : List Entry). AreAnswered host history s h rest) join behind))
+
+turn_parts : (history before opening grown closing after : List Entry) → history ≡ before ++ (((opening ++ grown) ++ closing) ++ after) → history ≡ before ++ (opening ++ (grown ++ (closing ++ after)))
+turn_parts history before opening grown closing after cut = cut ∙ ap (λ (h : List Entry). before ++ h) (parts opening grown closing after) where
+  parts : (opening grown closing after : List Entry) → ((opening ++ grown) ++ closing) ++ after ≡ opening ++ (grown ++ (closing ++ after))
+  parts opening grown closing after = simp append_assoc
+
+is_later : (host : Host) (before : List Entry) (seating : List (Option ℕ)) (patience : PatienceState) (spoken : Spoken) (s : ℕ) → IsSpoken host before seating patience spoken → session_at seating spoken.label ≡ Some s → IsLater s spoken
+is_later host before seating patience spoken s is at =
     let takes = takes_seated host before spoken.opening (session_at seating spoken.label) s spoken.session at is.takes in
-    record { same = takes.0; once = takes.1; answered = answers_later host history before spoken.opening patience spoken.session s spoken.exchange after cut is.exchanges takes.0 }
+    record { same = takes.0; once = takes.1 }
 
 -- ## One turn of the label, or of another
 
@@ -269,14 +307,15 @@ label_most seating label other s same only place is = only.only place is ∙ ap 
 -- the label alone, or another label alone
 left_course : (host : Host) (history : List Entry) (s label : ℕ) (seating : List (Option ℕ)) (other : ℕ) (closing : List Entry) (before : List Entry) (patience : PatienceState) → length seating ≡ last_label → IsLabel label
     → IsTurn host before seating patience (Left other closing) → OnlyAt s (label - 1) seating
-    → Stays host history s label (with_seat seating other None) closing (Left other closing) ⊎ Quits host history s label (with_seat seating other None) closing (Left other closing)
+    → Stays host history s label (with_seat seating other None) before closing (Left other closing) ⊎ Quits host history s label (with_seat seating other None) before closing (Left other closing)
 left_course host history s label seating other closing before patience size is_label is only =
     let c = host.caller in
     let inside = inside_seats seating other size is.0 in
     elim (cases_eq other label) [
       | inl same ↦ inr (record {
         some = [];
-        are = All-nil (IsLater host history s);
+        are = All-nil (IsLater s);
+        answered = tt;
         calls = closes_own s c (session_at seating other) closing (label_seat seating label other s same only) is.1;
         gone = nowhere_unset s (other - 1) seating inside (label_most seating label other s same only);
         commands = λ rest. ap (λ (b : Bool). cond b [] (commands_of label rest)) (eq-eqb other label same);
@@ -285,7 +324,8 @@ left_course host history s label seating other closing before patience size is_l
           let apart : other - 1 ≡ label - 1 → ⊥ = apart_labels label other is_label is.0 different in
           inl (record {
             some = [];
-            are = All-nil (IsLater host history s);
+            are = All-nil (IsLater s);
+            answered = answered_front host history s before closing;
             calls = closes_other s c (session_at seating other) closing is.1 (λ at. apart (only.only (other - 1) at));
             seat = only_other s (label - 1) (other - 1) seating None inside apart (λ none. cc none) only;
             commands = λ rest. ap (λ (b : Bool). cond b [] (commands_of label rest)) (ne_eqb other label different);
@@ -305,18 +345,22 @@ other_commands label spoken closing rest different =
 -- a command of the label
 own_course : (host : Host) (history : List Entry) (s label : ℕ) (seating : List (Option ℕ)) (spoken : Spoken) (closing : List Entry) (before after : List Entry) (patience : PatienceState) → length seating ≡ last_label
     → IsTurn host before seating patience (Spoke spoken closing) → history ≡ before ++ ((spoken_grown spoken ++ closing) ++ after) → OnlyAt s (label - 1) seating → spoken.label ≡ label
-    → Stays host history s label (seating_behind seating (Spoke spoken closing)) (spoken_grown spoken ++ closing) (Spoke spoken closing) ⊎ Quits host history s label (seating_behind seating (Spoke spoken closing)) (spoken_grown spoken ++ closing) (Spoke spoken closing)
+    → Stays host history s label (seating_behind seating (Spoke spoken closing)) before (spoken_grown spoken ++ closing) (Spoke spoken closing) ⊎ Quits host history s label (seating_behind seating (Spoke spoken closing)) before (spoken_grown spoken ++ closing) (Spoke spoken closing)
 own_course host history s label seating spoken closing before after patience size is cut only same =
     let c = host.caller in
     let outcome = spoken.exchange.outcome in
-    let later : IsLater host history s spoken = is_later host history before seating patience spoken (closing ++ after) s (cut ∙ ap (λ (h : List Entry). before ++ h) (append_assoc (spoken_grown spoken) closing after)) is.0 (label_seat seating label spoken.label s same only) in
-    let are : All (IsLater host history s) (spoken ∷ []) = All-cons (IsLater host history s) spoken [] later (All-nil (IsLater host history s)) in
+    let later : IsLater s spoken = is_later host before seating patience spoken s is.0 (label_seat seating label spoken.label s same only) in
+    let parts : history ≡ before ++ (spoken.opening ++ (spoken.exchange.grown ++ (closing ++ after))) = turn_parts history before spoken.opening spoken.exchange.grown closing after cut in
+    let answered : (rest : List Spoken) → AreAnswered host history s (before ++ (spoken_grown spoken ++ closing)) rest → AreAnswered host history s before (spoken ∷ rest) = λ rest behind.
+    answered_front host history s before spoken.opening (spoken ∷ rest) (answered_turn host history before patience spoken s closing after rest parts is.0.exchanges later.same behind) in
+    let are : All (IsLater s) (spoken ∷ []) = All-cons (IsLater s) spoken [] later (All-nil (IsLater s)) in
     let shorter : own_calls s c (spoken_grown spoken ++ closing) ≡ own_calls s c (spoken.exchange.grown ++ closing) = ap (λ (h : List Entry). own_calls s c ((h ++ spoken.exchange.grown) ++ closing)) later.once in
     let alone : calls_of c spoken.exchange.grown ≡ said c (spoken ∷ []) = sym (append-nil (calls_of c spoken.exchange.grown)) in
     elim (said_turn host (before ++ spoken.opening) patience seating spoken closing s size is.0.is_label is.0.exchanges is.1 later.same (label_most seating label spoken.label s same only)) [
       | inl goes ↦ inl (record {
         some = spoken ∷ [];
         are = are;
+        answered = answered;
         calls = shorter ∙ goes.calls ∙ alone;
         seat = subst (λ (l : ℕ). OnlyAt s (l - 1) (seating_behind seating (Spoke spoken closing))) same goes.seat;
         commands = λ rest. own_commands label spoken closing rest same ∙ ap (λ (xs : List Spoken). spoken ∷ xs) (goes.more (commands_of label rest));
@@ -324,6 +368,7 @@ own_course host history s label seating spoken closing before after patience siz
       | inr bye ↦ inr (record {
         some = spoken ∷ [];
         are = are;
+        answered = answered [] tt;
         calls = shorter ∙ bye.calls ∙ ap (λ (h : List Entry). h ++ closing_entry c s ∷ []) alone;
         gone = bye.gone;
         commands = λ rest. own_commands label spoken closing rest same ∙ ap (λ (xs : List Spoken). spoken ∷ xs) (bye.last (commands_of label rest));
@@ -333,7 +378,7 @@ own_course host history s label seating spoken closing before after patience siz
 -- a command of another label
 other_course : (host : Host) (history : List Entry) (s label : ℕ) (seating : List (Option ℕ)) (spoken : Spoken) (closing : List Entry) (before : List Entry) (patience : PatienceState) → length seating ≡ last_label → IsLabel label
     → IsTurn host before seating patience (Spoke spoken closing) → All (IsOwn host.caller s) spoken.opening → OnlyAt s (label - 1) seating → (spoken.label ≡ label → ⊥)
-    → Stays host history s label (seating_behind seating (Spoke spoken closing)) (spoken_grown spoken ++ closing) (Spoke spoken closing)
+    → Stays host history s label (seating_behind seating (Spoke spoken closing)) before (spoken_grown spoken ++ closing) (Spoke spoken closing)
 other_course host history s label seating spoken closing before patience size is_label is own only different =
     let at = spoken.label - 1 in
     let apart : at ≡ label - 1 → ⊥ = apart_labels label spoken.label is_label is.0.is_label different in
@@ -342,7 +387,8 @@ other_course host history s label seating spoken closing before patience size is
     let inside' = inside_seats (spoken_seating seating spoken) spoken.label (length-set seating at (Some spoken.session) ∙ size) is.0.is_label in
     record {
       some = [];
-      are = All-nil (IsLater host history s);
+      are = All-nil (IsLater s);
+      answered = answered_front host history s before (spoken_grown spoken ++ closing);
       calls = turn_other host before seating patience spoken closing s is other;
       seat = only_outcome s (label - 1) spoken.label (spoken_seating seating spoken) spoken.exchange.outcome inside' apart (only_other s (label - 1) at seating (Some spoken.session) inside apart (λ same. other (cc same)) only);
       commands = λ rest. other_commands label spoken closing rest different;
@@ -350,8 +396,8 @@ other_course host history s label seating spoken closing before patience size is
 
 course : (host : Host) (history : List Entry) (s label : ℕ) (seating : List (Option ℕ)) (turn : Turn) (before after : List Entry) (patience : PatienceState) → length seating ≡ last_label → IsLabel label
     → IsTurn host before seating patience turn → history ≡ before ++ (grown_of turn ++ after) → All (IsOwn host.caller s) (grown_of turn) → OnlyAt s (label - 1) seating
-    → Stays host history s label (seating_behind seating turn) (grown_of turn) turn ⊎ Quits host history s label (seating_behind seating turn) (grown_of turn) turn
-course host history s label seating (Unlabelled line) before after patience size is_label is cut own only = inl (record { some = []; are = All-nil (IsLater host history s); calls = refl; seat = only; commands = λ rest. refl })
+    → Stays host history s label (seating_behind seating turn) before (grown_of turn) turn ⊎ Quits host history s label (seating_behind seating turn) before (grown_of turn) turn
+course host history s label seating (Unlabelled line) before after patience size is_label is cut own only = inl (record { some = []; are = All-nil (IsLater s); answered = answered_front host history s before []; calls = refl; seat = only; commands = λ rest. refl })
 course host history s label seating (Left other closing) before after patience size is_label is cut own only = left_course host history s label seating other closing before patience size is_label is only
 course host history s label seating (Spoke spoken closing) before after patience size is_label is cut own only =
     let c = host.caller in
@@ -364,12 +410,12 @@ course host history s label seating (Spoke spoken closing) before after patience
 -- ## All turns of the label in its session
 
 -- what the turns make up, where this is said of what stands behind them
-pub run : (host : Host) (history : List Entry) (s label : ℕ) (tail : List Entry) (cut : List Turn) (before : List Entry) (seating : List (Option ℕ)) (patience : PatienceState) (turns : List Turn) → length seating ≡ last_label → IsLabel label
+pub run : (host : Host) (history : List Entry) (s label : ℕ) (at tail : List Entry) (cut : List Turn) (before : List Entry) (seating : List (Option ℕ)) (patience : PatienceState) (turns : List Turn) → length seating ≡ last_label → IsLabel label
     → AreTurns host before seating patience turns → history ≡ before ++ (grown_by turns ++ tail) → All (IsOwn host.caller s) (grown_by turns ++ tail) → OnlyAt s (label - 1) seating
-    → (OnlyAt s (label - 1) (seating_after seating turns) → Ends host history s label tail cut) → (Nowhere s (seating_after seating turns) → own_calls s host.caller tail ≡ [])
-    → Ends host history s label (grown_by turns ++ tail) (turns ++ cut)
-run host history s label tail cut before seating patience [] size is_label are is own only ends gone = ends only
-run host history s label tail cut before seating patience (turn ∷ turns) size is_label are is own only ends gone =
+    → (OnlyAt s (label - 1) (seating_after seating turns) → Ends host history s label at tail cut) → (Nowhere s (seating_after seating turns) → own_calls s host.caller tail ≡ [])
+    → at ≡ before ++ grown_by turns → Ends host history s label before (grown_by turns ++ tail) (turns ++ cut)
+run host history s label at tail cut before seating patience [] size is_label are is own only ends gone place = subst (λ (h : List Entry). Ends host history s label h tail cut) (place ∙ append-nil before) (ends only)
+run host history s label at tail cut before seating patience (turn ∷ turns) size is_label are is own only ends gone place =
     let P = IsOwn host.caller s in
     let after : List Entry = grown_by turns ++ tail in
     let join : (grown_of turn ++ grown_by turns) ++ tail ≡ grown_of turn ++ after = append_assoc (grown_of turn) (grown_by turns) tail in
@@ -377,22 +423,23 @@ run host history s label tail cut before seating patience (turn ∷ turns) size 
     let all : All P (grown_of turn ++ after) = subst (All P) join own in
     let behind : All P after = all_back P (grown_of turn) after all in
     let size' : length (seating_behind seating turn) ≡ last_label = size_behind seating turn ∙ size in
-    subst (λ (h : List Entry). Ends host history s label h (turn ∷ (turns ++ cut))) (sym join)
+    subst (λ (h : List Entry). Ends host history s label before h (turn ∷ (turns ++ cut))) (sym join)
     (elim (course host history s label seating turn before after patience size is_label are.0 whole (all_front P (grown_of turn) after all) only) [
-      | inl stays ↦ stays_ends host history s label (seating_behind seating turn) (grown_of turn) after turn (turns ++ cut) stays
-          (run host history s label tail cut (before ++ grown_of turn) (seating_behind seating turn) (patience_behind patience turn) turns size' is_label are.1 (whole ∙ sym (append_assoc before (grown_of turn) after)) behind stays.seat ends gone)
-      | inr quits ↦ quits_ends host history s label (seating_behind seating turn) (grown_of turn) after turn (turns ++ cut) quits
+      | inl stays ↦ stays_ends host history s label (seating_behind seating turn) before (grown_of turn) after turn (turns ++ cut) stays
+          (run host history s label at tail cut (before ++ grown_of turn) (seating_behind seating turn) (patience_behind patience turn) turns size' is_label are.1 (whole ∙ sym (append_assoc before (grown_of turn) after)) behind stays.seat ends gone (place ∙ sym (append_assoc before (grown_of turn) (grown_by turns))))
+      | inr quits ↦ quits_ends host history s label (seating_behind seating turn) before (grown_of turn) after turn (turns ++ cut) quits
           (gone_run host s tail (before ++ grown_of turn) (seating_behind seating turn) (patience_behind patience turn) turns size' are.1 behind quits.gone gone)
     ])
 
 -- ## The end of the play
 
 -- the label still has its session when all close
-closing_ends : (host : Host) (history : List Entry) (s label : ℕ) (seating : List (Option ℕ)) (grown closing : List Entry) → own_calls s host.caller grown ≡ [] → AreClosed host.caller seating closing → OnlyAt s (label - 1) seating
-    → (cut : List Turn) → commands_of label cut ≡ [] → Ends host history s label (grown ++ closing) cut
-closing_ends host history s label seating grown closing none closed only cut silent = record {
+closing_ends : (host : Host) (history : List Entry) (s label : ℕ) (seating : List (Option ℕ)) (before grown closing : List Entry) → own_calls s host.caller grown ≡ [] → AreClosed host.caller seating closing → OnlyAt s (label - 1) seating
+    → (cut : List Turn) → commands_of label cut ≡ [] → Ends host history s label before (grown ++ closing) cut
+closing_ends host history s label seating before grown closing none closed only cut silent = record {
   some = [];
-  are = All-nil (IsLater host history s);
+  are = All-nil (IsLater s);
+  answered = tt;
   calls = own_append s host.caller grown closing ∙ ap (λ (h : List Entry). h ++ own_calls s host.caller closing) none ∙ closed_only s host.caller (label - 1) seating closing closed only;
   commands = silent;
 }
@@ -400,16 +447,18 @@ closing_ends host history s label seating grown closing none closed only cut sil
 -- the last command is one of the label
 own_cut : (host : Host) (history : List Entry) (s label : ℕ) (before : List Entry) (seating : List (Option ℕ)) (patience : PatienceState) (spoken : Spoken) (closing : List Entry) → length seating ≡ last_label
     → IsSpoken host before seating patience spoken → AreClosed host.caller (spoken_seating seating spoken) closing → history ≡ before ++ (spoken_grown spoken ++ closing) → OnlyAt s (label - 1) seating → spoken.label ≡ label
-    → Ends host history s label (spoken_grown spoken ++ closing) (Spoke spoken [] ∷ [])
+    → Ends host history s label before (spoken_grown spoken ++ closing) (Spoke spoken [] ∷ [])
 own_cut host history s label before seating patience spoken closing size is closed cut only same =
     let c = host.caller in
     let at = spoken.label - 1 in
-    let later : IsLater host history s spoken = is_later host history before seating patience spoken closing s cut is (label_seat seating label spoken.label s same only) in
+    let later : IsLater s spoken = is_later host before seating patience spoken s is (label_seat seating label spoken.label s same only) in
+    let behind : history ≡ (before ++ spoken.opening) ++ (spoken.exchange.grown ++ closing) = cut ∙ ap (λ (h : List Entry). before ++ h) (append_assoc spoken.opening spoken.exchange.grown closing) ∙ sym (append_assoc before spoken.opening (spoken.exchange.grown ++ closing)) in
     let seated : OnlyAt s at (spoken_seating seating spoken) = subst (λ (k : ℕ). OnlyAt s at (with_seat seating spoken.label (Some k))) (sym later.same)
     (only_set s at seating (inside_seats seating spoken.label size is.is_label) (label_most seating label spoken.label s same only)) in
     record {
       some = spoken ∷ [];
-      are = All-cons (IsLater host history s) spoken [] later (All-nil (IsLater host history s));
+      are = All-cons (IsLater s) spoken [] later (All-nil (IsLater s));
+      answered = answered_front host history s before spoken.opening (spoken ∷ []) (answered_now host history (before ++ spoken.opening) patience spoken s closing [] behind is.exchanges later.same tt);
       calls = ap (λ (h : List Entry). own_calls s c ((h ++ spoken.exchange.grown) ++ closing)) later.once
           ∙ own_append s c spoken.exchange.grown closing
           ∙ ap (λ (h : List Entry). h ++ own_calls s c closing) (said_calls host (before ++ spoken.opening) patience spoken s is.exchanges later.same ∙ sym (append-nil (calls_of c spoken.exchange.grown)))
@@ -419,11 +468,11 @@ own_cut host history s label before seating patience spoken closing size is clos
 
 pub stop_ends : (host : Host) (history : List Entry) (s label : ℕ) (before : List Entry) (seating : List (Option ℕ)) (patience : PatienceState) (rest : List ℕ) (ended : Type 0) (stop : Stop) (closing : List Entry) → length seating ≡ last_label → IsLabel label
     → IsStop host before seating patience rest ended stop → AreClosed host.caller (stop_seating seating stop) closing → history ≡ before ++ (stop_grown stop ++ closing) → All (IsOwn host.caller s) (stop_grown stop ++ closing) → OnlyAt s (label - 1) seating
-    → Ends host history s label (stop_grown stop ++ closing) (cut_turn stop)
-stop_ends host history s label before seating patience rest ended (Input how) closing size is_label is closed cut own only = closing_ends host history s label seating [] closing refl closed only [] refl
-stop_ends host history s label before seating patience rest ended (CutUnlabelled line) closing size is_label is closed cut own only = closing_ends host history s label seating [] closing refl closed only [] refl
+    → Ends host history s label before (stop_grown stop ++ closing) (cut_turn stop)
+stop_ends host history s label before seating patience rest ended (Input how) closing size is_label is closed cut own only = closing_ends host history s label seating before [] closing refl closed only [] refl
+stop_ends host history s label before seating patience rest ended (CutUnlabelled line) closing size is_label is closed cut own only = closing_ends host history s label seating before [] closing refl closed only [] refl
 stop_ends host history s label before seating patience rest ended (Refuses refused) closing size is_label is closed cut own only =
-    closing_ends host history s label seating refused.grown closing (own_none s host.caller refused.grown (none_opened host.limit host.caller before refused.grown refused.fault is.opens)) closed only [] refl
+    closing_ends host history s label seating before refused.grown closing (own_none s host.caller refused.grown (none_opened host.limit host.caller before refused.grown refused.fault is.opens)) closed only [] refl
 stop_ends host history s label before seating patience rest ended (CutSpoken spoken) closing size is_label is closed cut own only =
     let P = IsOwn host.caller s in
     let opening : All P spoken.opening = all_front P spoken.opening spoken.exchange.grown (all_front P (spoken_grown spoken) closing own) in
@@ -435,7 +484,7 @@ stop_ends host history s label before seating patience rest ended (CutSpoken spo
           let other : spoken.session ≡ s → ⊥ = takes_other host before spoken.opening (session_at seating spoken.label) s spoken.session is.takes opening (λ here. apart (only.only at here)) in
           let inside = inside_seats seating spoken.label size is.is_label in
           let seated : OnlyAt s (label - 1) (spoken_seating seating spoken) = only_other s (label - 1) at seating (Some spoken.session) inside apart (λ same. other (cc same)) only in
-          closing_ends host history s label (spoken_seating seating spoken) (spoken_grown spoken) closing (spoken_other host before seating patience spoken s is other) closed seated (Spoke spoken [] ∷ []) (other_commands label spoken [] [] different)
+          closing_ends host history s label (spoken_seating seating spoken) before (spoken_grown spoken) closing (spoken_other host before seating patience spoken s is other) closed seated (Spoke spoken [] ∷ []) (other_commands label spoken [] [] different)
     ]
 
 closing_gone : (s c : ℕ) (seating : List (Option ℕ)) (grown closing : List Entry) → own_calls s c grown ≡ [] → AreClosed c seating closing → Nowhere s seating → own_calls s c (grown ++ closing) ≡ []

@@ -18,12 +18,12 @@ use Rattle.q4_play.specs.declared.plays.PlayEnd.{PlayEnd}
 use Rattle.q4_play.specs.Labels.{last_label, nobody, session_at, with_seat}
 use Rattle.q4_play.specs.Turns.{Host, Spoken, Turn, Unlabelled, Left, Spoke, IsTurn, IsSpoken, AreTurns, Takes, client_of, spoken_grown, spoken_seating, grown_of, grown_by, behind_outcome, seating_behind, seating_after, patience_behind, patience_after}
 use Rattle.q4_play.specs.Plays.{Stop, Input, Refuses, CutUnlabelled, CutSpoken, IsStop, AreClosed, Play, stop_grown, stop_seating}
-use Rattle.q4_play.specs.Whole.{cut_turn, all_turns, HasNone, commands_of, commands_behind, calls_in, opening_entry, closing_entry, AnswersIn, IsWholeSession}
+use Rattle.q4_play.specs.Whole.{cut_turn, all_turns, HasNone, commands_of, commands_behind, calls_in, opening_entry, closing_entry, AreAnswered, IsWholeSession}
 use Rattle.q4_play.proofs.Placing.{none_some, some_is, nobody_at, read_set, inside_seats}
 use Rattle.q4_play.proofs.Fresh.{AreOthers, IsOwn, all_front, all_back, all_middle, fresh, own_behind}
 use Rattle.q4_play.proofs.Own.{own_calls, own_append, own_none, calls_append, calls_others, calls_own}
 use Rattle.q4_play.proofs.Seats.{Nowhere, OnlyAt, only_set, closed_only}
-use Rattle.q4_play.proofs.Course.{IsLater, Ends, SaidMore, SaidBye, said, said_turn, said_calls, bye_last, size_behind, run, gone_run, stop_ends, stop_gone}
+use Rattle.q4_play.proofs.Course.{IsLater, Ends, SaidMore, SaidBye, said, said_turn, said_calls, bye_last, size_behind, answered_now, answered_turn, run, gone_run, stop_ends, stop_gone}
 
 -- ## Where a turn stands
 
@@ -152,12 +152,11 @@ known_nobody host before patience turns are =
 -- an opening, the first command, and what stands behind them
 record Begins (host : Host) (history : List Entry) (first : Spoken) (rest : List Spoken) : Type 0 where
   before : List Entry
-  patience : PatienceState
   after : List Entry
   cut : history ≡ before ++ (first.opening ++ (first.exchange.grown ++ after))
   opens : OpensAt host.limit before first.opening host.caller first.session
-  answers : IsExchange (client_of host first.session) (before ++ first.opening) patience first.exchange
-  later : All (IsLater host history first.session) rest
+  answered : AreAnswered host history first.session (before ++ first.opening) (first ∷ rest)
+  later : All (IsLater first.session) rest
   calls : own_calls first.session host.caller (first.exchange.grown ++ after) ≡ said host.caller (first ∷ rest) ++ closing_entry host.caller first.session ∷ []
 
 -- the history cut at the entry of the opening
@@ -188,18 +187,11 @@ whole_of : (host : Host) (history : List Entry) (first : Spoken) (rest : List Sp
 whole_of host history first rest legal begins =
     let s = first.session in
     let after : List Entry = first.exchange.grown ++ begins.after in
-    let answered : AnswersIn host history s first.exchange = record {
-      before = begins.before ++ first.opening;
-      patience = begins.patience;
-      later = begins.after;
-      cut = begins.cut ∙ sym (append_assoc begins.before first.opening after) ∙ sym (append_assoc (begins.before ++ first.opening) first.exchange.grown begins.after);
-      answers = begins.answers;
-    } in
     record {
-      same = All-cons (λ (x : Spoken). x.session ≡ s) first rest refl (All-weaker (IsLater host history s) (λ (x : Spoken). x.session ≡ s) (λ x is. is.same) rest begins.later);
+      same = All-cons (λ (x : Spoken). x.session ≡ s) first rest refl (All-weaker (IsLater s) (λ (x : Spoken). x.session ≡ s) (λ x is. is.same) rest begins.later);
       opened = record { before = begins.before; later = after; cut = begins.cut ∙ sym (append_assoc begins.before first.opening after); opens = begins.opens };
-      once = All-weaker (IsLater host history s) (λ (x : Spoken). x.opening ≡ []) (λ x is. is.once) rest begins.later;
-      each = All-cons (λ (x : Spoken). AnswersIn host history s x.exchange) first rest answered (All-weaker (IsLater host history s) (λ (x : Spoken). AnswersIn host history s x.exchange) (λ x is. is.answered) rest begins.later);
+      once = All-weaker (IsLater s) (λ (x : Spoken). x.opening ≡ []) (λ x is. is.once) rest begins.later;
+      answered = begins.answered;
       calls = opened_calls host.limit history begins.before first.opening after host.caller s legal begins.opens begins.cut ∙ ap (λ (h : List Entry). opening_entry host.caller s ∷ h) begins.calls;
     }
 
@@ -230,8 +222,7 @@ calls_last s c grown closing more first here none =
     ∙ here ∙ ap (λ (h : List Entry). h ++ closing_entry c s ∷ []) (sym (append-nil (calls_of c first.exchange.grown)))
 
 -- what stands behind the turns of a play: its stop and the closing of all labels
-record Stopped (host : Host) (history : List Entry) (seating : List (Option ℕ)) (stop : Stop) (closing : List Entry) : Type 1 where
-  before : List Entry
+record Stopped (host : Host) (history before : List Entry) (seating : List (Option ℕ)) (stop : Stop) (closing : List Entry) : Type 1 where
   patience : PatienceState
   rest : List ℕ
   ended : Type 0
@@ -244,15 +235,14 @@ turn_behind history before here grown tail is = is ∙ ap (λ (h : List Entry). 
 
 -- the session goes on behind its first command
 begins_more : (host : Host) (history before : List Entry) (patience : PatienceState) (seats : List (Option ℕ)) (first : Spoken) (closing more : List Entry) (turns : List Turn) → history ≡ before ++ (first.opening ++ (first.exchange.grown ++ (closing ++ more)))
-    → OpensAt host.limit before first.opening host.caller first.session → IsExchange (client_of host first.session) (before ++ first.opening) patience first.exchange → SaidMore host first.session seats first closing → Ends host history first.session first.label more turns
+    → OpensAt host.limit before first.opening host.caller first.session → IsExchange (client_of host first.session) (before ++ first.opening) patience first.exchange → SaidMore host first.session seats first closing → Ends host history first.session first.label (before ++ grown_of (Spoke first closing)) more turns
     → Begins host history first (commands_behind first turns)
 begins_more host history before patience seats first closing more turns cut opens answers goes ends = subst (Begins host history first) (sym (goes.more (commands_of first.label turns) ∙ ends.commands)) (record {
   before = before;
-  patience = patience;
   after = closing ++ more;
   cut = cut;
   opens = opens;
-  answers = answers;
+  answered = answered_turn host history before patience first first.session closing more ends.some cut answers refl ends.answered;
   later = ends.are;
   calls = calls_more first.session host.caller first.exchange.grown closing more first ends.some refl goes.calls ends.calls;
 })
@@ -263,18 +253,17 @@ begins_bye : (host : Host) (history before : List Entry) (patience : PatienceSta
     → Begins host history first (commands_behind first turns)
 begins_bye host history before patience seats first closing more turns cut opens answers bye over = subst (Begins host history first) (sym (bye.last (commands_of first.label turns))) (record {
   before = before;
-  patience = patience;
   after = closing ++ more;
   cut = cut;
   opens = opens;
-  answers = answers;
-  later = All-nil (IsLater host history first.session);
+  answered = answered_turn host history before patience first first.session closing more [] cut answers refl tt;
+  later = All-nil (IsLater first.session);
   calls = calls_last first.session host.caller first.exchange.grown closing more first bye.calls over;
 })
 
 -- the opening command is one of the turns
 begins_turns : (host : Host) (history before : List Entry) (seating : List (Option ℕ)) (patience : PatienceState) (first : Spoken) (closing : List Entry) (turns : List Turn) (stop : Stop) (end : List Entry) → IsLegal history → length seating ≡ last_label
-    → AreTurns host before seating patience (Spoke first closing ∷ turns) → Stopped host history (seating_after seating (Spoke first closing ∷ turns)) stop end
+    → AreTurns host before seating patience (Spoke first closing ∷ turns) → Stopped host history (before ++ grown_by (Spoke first closing ∷ turns)) (seating_after seating (Spoke first closing ∷ turns)) stop end
     → history ≡ before ++ (grown_by (Spoke first closing ∷ turns) ++ (stop_grown stop ++ end)) → Known before seating → session_at seating first.label ≡ None
     → Begins host history first (commands_behind first (turns ++ cut_turn stop))
 begins_turns host history before seating patience first closing turns stop end legal size are stopped is known none =
@@ -285,6 +274,7 @@ begins_turns host history before seating patience first closing turns stop end l
     let exchange = first.exchange in
     let tail : List Entry = stop_grown stop ++ end in
     let more : List Entry = grown_by turns ++ tail in
+    let at : List Entry = before ++ grown_by (Spoke first closing ∷ turns) in
     let here : List Entry = grown_of (Spoke first closing) in
     let opens : OpensAt host.limit before first.opening c s = subst (λ (seat : Option ℕ). Takes host before first.opening seat s) none are.0.0.takes in
     let cut : history ≡ before ++ (first.opening ++ (exchange.grown ++ (closing ++ more))) = regroup history before first.opening exchange.grown closing (grown_by turns) tail is in
@@ -296,12 +286,12 @@ begins_turns host history before seating patience first closing turns stop end l
     let size' : length seating' ≡ last_label = size_behind seating (Spoke first closing) ∙ size in
     let size_end : length (seating_after seating' turns) ≡ last_label = size_after seating' turns ∙ size' in
     let behind : history ≡ (before ++ here) ++ more = turn_behind history before here (grown_by turns) tail is in
-    let gone : Nowhere s (seating_after seating' turns) → own_calls s c tail ≡ [] = stop_gone host s stopped.before (seating_after seating' turns) stopped.patience stopped.rest stopped.ended stop end size_end stopped.stops stopped.closed own_tail in
-    let ends : OnlyAt s (label - 1) (seating_after seating' turns) → Ends host history s label tail (cut_turn stop) =
-    stop_ends host history s label stopped.before (seating_after seating' turns) stopped.patience stopped.rest stopped.ended stop end size_end are.0.0.is_label stopped.stops stopped.closed stopped.cut own_tail in
+    let gone : Nowhere s (seating_after seating' turns) → own_calls s c tail ≡ [] = stop_gone host s at (seating_after seating' turns) stopped.patience stopped.rest stopped.ended stop end size_end stopped.stops stopped.closed own_tail in
+    let ends : OnlyAt s (label - 1) (seating_after seating' turns) → Ends host history s label at tail (cut_turn stop) =
+    stop_ends host history s label at (seating_after seating' turns) stopped.patience stopped.rest stopped.ended stop end size_end are.0.0.is_label stopped.stops stopped.closed stopped.cut own_tail in
     elim (said_turn host (before ++ first.opening) patience seating first closing s size are.0.0.is_label are.0.0.exchanges are.0.1 refl (λ place at. absurd (nowhere place at))) [
       | inl goes ↦ begins_more host history before patience seating' first closing more (turns ++ cut_turn stop) cut opens are.0.0.exchanges goes
-          (run host history s label tail (cut_turn stop) (before ++ here) seating' (patience_behind patience (Spoke first closing)) turns size' are.0.0.is_label are.1 behind own_more goes.seat ends gone)
+          (run host history s label at tail (cut_turn stop) (before ++ here) seating' (patience_behind patience (Spoke first closing)) turns size' are.0.0.is_label are.1 behind own_more goes.seat ends gone (sym (append_assoc before here (grown_by turns))))
       | inr bye ↦ begins_bye host history before patience seating' first closing more (turns ++ cut_turn stop) cut opens are.0.0.exchanges bye
           (gone_run host s tail (before ++ here) seating' (patience_behind patience (Spoke first closing)) turns size' are.1 own_more bye.gone gone)
     ]
@@ -320,12 +310,11 @@ begins_cut host history before seating patience first end legal size is closed c
     let seated : OnlyAt s at (spoken_seating seating first) = only_set s at seating (inside_seats seating first.label size is.is_label) (λ place here. absurd (nowhere place here)) in
     record {
       before = before;
-      patience = patience;
       after = end;
       cut = whole;
       opens = opens;
-      answers = is.exchanges;
-      later = All-nil (IsLater host history s);
+      answered = answered_now host history (before ++ first.opening) patience first s end [] (whole ∙ sym (append_assoc before first.opening (exchange.grown ++ end))) is.exchanges refl tt;
+      later = All-nil (IsLater s);
       calls = own_append s c exchange.grown end
           ∙ ap (λ (h : List Entry). h ++ own_calls s c end) (said_calls host (before ++ first.opening) patience first s is.exchanges refl ∙ sym (append-nil (calls_of c exchange.grown)))
           ∙ ap (λ (h : List Entry). said c (first ∷ []) ++ h) (closed_only s c at (spoken_seating seating first) end closed seated);
@@ -341,7 +330,7 @@ moved old front here grown tail new is cut =
     is ∙ ap (λ (h : List Entry). (old ++ h) ++ tail) cut ∙ ap (λ (h : List Entry). h ++ tail) (sym (append_assoc old front here)) ∙ append_assoc (old ++ front) here tail
 
 in_turns : (host : Host) (old : Around) (history : List Entry) (turns : List Turn) (stop : Stop) (end : List Entry) (front mid : List Turn) (first : Spoken) (closing : List Entry) → IsLegal history → AreTurns host old.seen nobody old.patience turns
-    → Stopped host history (seating_after nobody turns) stop end → history ≡ (old.seen ++ grown_by turns) ++ (stop_grown stop ++ end) → turns ≡ front ++ Spoke first closing ∷ mid → HasNone front first.label
+    → Stopped host history (old.seen ++ grown_by turns) (seating_after nobody turns) stop end → history ≡ (old.seen ++ grown_by turns) ++ (stop_grown stop ++ end) → turns ≡ front ++ Spoke first closing ∷ mid → HasNone front first.label
     → Begins host history first (commands_behind first (mid ++ cut_turn stop))
 in_turns host old history turns stop end front mid first closing legal are stopped is cut none =
     let here : List Turn = Spoke first closing ∷ mid in
@@ -349,7 +338,8 @@ in_turns host old history turns stop end front mid first closing legal are stopp
     let seats : seating_after nobody turns ≡ seating_after (seating_after nobody front) here = ap (seating_after nobody) cut ∙ seating_split nobody front here in
     let grown : grown_by turns ≡ grown_by front ++ grown_by here = ap grown_by cut ∙ flat_map-append grown_of front here in
     begins_turns host history (old.seen ++ grown_by front) (seating_after nobody front) (patience_after old.patience front) first closing mid stop end legal (size_nobody front) both.1
-    (subst (λ (x : List (Option ℕ)). Stopped host history x stop end) seats stopped)
+    (subst (λ (h : List Entry). Stopped host history h (seating_after (seating_after nobody front) here) stop end) (ap (λ (h : List Entry). old.seen ++ h) grown ∙ sym (append_assoc old.seen (grown_by front) (grown_by here)))
+    (subst (λ (x : List (Option ℕ)). Stopped host history (old.seen ++ grown_by turns) x stop end) seats stopped))
     (moved old.seen (grown_by front) (grown_by here) (grown_by turns) (stop_grown stop ++ end) history is grown) (known_nobody host old.seen old.patience front both.0) none
 
 in_cut : (host : Host) (old : Around) (history : List Entry) (turns : List Turn) (stop : Stop) (end : List Entry) (front : List Turn) (first : Spoken) → IsLegal history → AreTurns host old.seen nobody old.patience turns → (patience : PatienceState)
@@ -371,8 +361,7 @@ whole_session host old new ended how play front later first closing legal cut no
     let rest = commands_behind first in
     whole_of host new.seen first (rest later) legal (elim (append_cut turns (cut_turn stop) front (Spoke first closing) later cut) [
       | inl within ↦
-          let stopped : Stopped host new.seen seats stop play.closing = record {
-            before = old.seen ++ grown_by turns;
+          let stopped : Stopped host new.seen (old.seen ++ grown_by turns) seats stop play.closing = record {
             patience = patience_after old.patience turns;
             rest = lined.rest;
             ended = IsTrue ended;

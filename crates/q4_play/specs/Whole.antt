@@ -64,23 +64,30 @@ pub record OpensIn (host : Host) (history : List Entry) (session : ℕ) (opening
   pub cut : history ≡ before ++ opening ++ later
   pub opens : IsOpened host.limit before opening host.caller (Ok session)
 
--- A line stands in the history as the session answered it: by the relation that holds of a session alone.
-pub record AnswersIn (host : Host) (history : List Entry) (session : ℕ) (exchange : Exchange) : Type 0 where
-  pub before : List Entry
+-- A line of the session stands in the history behind this front of it, where more may stand between. It was answered there
+-- by the relation that holds of a session alone.
+pub record AnswersBehind (host : Host) (history : List Entry) (session : ℕ) (front : List Entry) (exchange : Exchange) : Type 0 where
+  pub between : List Entry
   pub patience : PatienceState
   pub later : List Entry
-  pub cut : history ≡ before ++ exchange.grown ++ later
-  pub answers : IsExchange (client_of host session) before patience exchange
+  pub cut : history ≡ front ++ between ++ exchange.grown ++ later
+  pub answers : IsExchange (client_of host session) (front ++ between) patience exchange
+
+-- Commands of the session were answered so, each behind the one before it.
+abbrev pub AreAnswered : Host → List Entry → ℕ → List Entry → List Spoken → Type 0
+AreAnswered host history session front [] = Unit {0}
+AreAnswered host history session front (spoken ∷ rest) = (here : AnswersBehind host history session front spoken.exchange) × AreAnswered host history session (front ++ here.between ++ spoken.exchange.grown) rest
 
 -- ## Whole sessions
 
--- A whole session: all these commands are of it, the first one alone opened it, and each was answered as by a session alone.
--- Its calls in the whole history are its opening, those of these commands in order, and its closing.
+-- A whole session: all these commands are of it, the first one alone opened it, and behind its opening each was answered as by
+-- a session alone, one behind the other. Its calls in the whole history are its opening, those of these commands, and its
+-- closing, in order.
 pub record IsWholeSession (host : Host) (history : List Entry) (session : ℕ) (first : Spoken) (rest : List Spoken) : Type 0 where
   pub same : All (λ spoken. spoken.session ≡ session) (first ∷ rest)
   pub opened : OpensIn host history session first.opening
   pub once : All (λ spoken. spoken.opening ≡ []) rest
-  pub each : All (λ spoken. AnswersIn host history session spoken.exchange) (first ∷ rest)
+  pub answered : AreAnswered host history session (opened.before ++ first.opening) (first ∷ rest)
   pub calls : calls_in session history ≡ opening_entry host.caller session ∷ flat_map (λ spoken. calls_of host.caller spoken.exchange.grown) (first ∷ rest) ++ closing_entry host.caller session ∷ []
 
 -- The turn of a command, with `front` before it and `later` behind it, is of the session that a command of the same label
