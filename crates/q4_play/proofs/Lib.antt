@@ -12,3 +12,4 @@ pub mod Seats
 pub mod Course
 pub mod Wholes
 pub mod Since
+pub mod Apart

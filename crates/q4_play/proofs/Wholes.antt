@@ -106,7 +106,8 @@ known_outcome history seating label (told.Seen mark) inside known = known
 known_outcome history seating label (told.Rows rows) inside known = known
 known_outcome history seating label (told.Refused code) inside known = known
 
-opening_known : (limit : ℕ) (before opening more : List Entry) (c s : ℕ) → OpensAt limit before opening c s → AreOthers s (before ++ (opening ++ more)) → ⊥
+-- an opening leaves an entry of its session
+pub opening_known : (limit : ℕ) (before opening more : List Entry) (c s : ℕ) → OpensAt limit before opening c s → AreOthers s (before ++ (opening ++ more)) → ⊥
 opening_known limit before opening more c s opens others =
     let P = λ (e : Entry). e.session ≡ s → ⊥ in
     let here : AreOthers s opening = all_front P opening more (all_back P before (opening ++ more) others) in
@@ -160,7 +161,7 @@ record Begins (host : Host) (history : List Entry) (first : Spoken) (rest : List
   calls : own_calls first.session host.caller (first.exchange.grown ++ after) ≡ said host.caller (first ∷ rest) ++ closing_entry host.caller first.session ∷ []
 
 -- the history cut at the entry of the opening
-opening_cut : (limit : ℕ) (history before opening after : List Entry) (c s : ℕ) (opens : OpensAt limit before opening c s) → history ≡ before ++ (opening ++ after)
+pub opening_cut : (limit : ℕ) (history before opening after : List Entry) (c s : ℕ) (opens : OpensAt limit before opening c s) → history ≡ before ++ (opening ++ after)
     → history ≡ (before ++ opens.front) ++ opening_entry c s ∷ (opens.back ++ after)
 opening_cut limit history before opening after c s opens is =
     is ∙ ap (λ (h : List Entry). before ++ (h ++ after)) opens.cut ∙ ap (λ (h : List Entry). before ++ h) (append_assoc opens.front (opening_entry c s ∷ opens.back) after)
@@ -195,7 +196,8 @@ whole_of host history first rest legal begins =
       calls = opened_calls host.limit history begins.before first.opening after host.caller s legal begins.opens begins.cut ∙ ap (λ (h : List Entry). opening_entry host.caller s ∷ h) begins.calls;
     }
 
-regroup : (history before opening answered closing grown tail : List Entry) → history ≡ before ++ ((((opening ++ answered) ++ closing) ++ grown) ++ tail) → history ≡ before ++ (opening ++ (answered ++ (closing ++ (grown ++ tail))))
+-- the parts of a turn, and what is behind it
+pub regroup : (history before opening answered closing grown tail : List Entry) → history ≡ before ++ ((((opening ++ answered) ++ closing) ++ grown) ++ tail) → history ≡ before ++ (opening ++ (answered ++ (closing ++ (grown ++ tail))))
 regroup history before opening answered closing grown tail is = is ∙ ap (λ (h : List Entry). before ++ h) (parts opening answered closing grown tail) where
   parts : (opening answered closing grown tail : List Entry) → (((opening ++ answered) ++ closing) ++ grown) ++ tail ≡ opening ++ (answered ++ (closing ++ (grown ++ tail)))
   parts opening answered closing grown tail = simp append_assoc
@@ -322,10 +324,12 @@ begins_cut host history before seating patience first end legal size is closed c
 
 -- ## Any play
 
-play_history : (old grown stopped closing new before : List Entry) → before ≡ (old ++ grown) ++ stopped → new ≡ before ++ closing → new ≡ (old ++ grown) ++ (stopped ++ closing)
+-- the history of a play cut behind its turns
+pub play_history : (old grown stopped closing new before : List Entry) → before ≡ (old ++ grown) ++ stopped → new ≡ before ++ closing → new ≡ (old ++ grown) ++ (stopped ++ closing)
 play_history old grown stopped closing new before is more = more ∙ ap (λ (h : List Entry). h ++ closing) is ∙ append_assoc (old ++ grown) stopped closing
 
-moved : (old front here grown tail new : List Entry) → new ≡ (old ++ grown) ++ tail → grown ≡ front ++ here → new ≡ (old ++ front) ++ (here ++ tail)
+-- the history cut at a turn
+pub moved : (old front here grown tail new : List Entry) → new ≡ (old ++ grown) ++ tail → grown ≡ front ++ here → new ≡ (old ++ front) ++ (here ++ tail)
 moved old front here grown tail new is cut =
     is ∙ ap (λ (h : List Entry). (old ++ h) ++ tail) cut ∙ ap (λ (h : List Entry). h ++ tail) (sym (append_assoc old front here)) ∙ append_assoc (old ++ front) here tail
 

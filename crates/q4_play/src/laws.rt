@@ -17,12 +17,15 @@ pub fn closed_sessions_stay_closed()
 {}
 
 /// A law: in every play that left a legal history, a command of a label that has no session begins a whole session, which
-/// goes on with the label's commands up to its leaving, and closes then or at the end of the play; and each command of
-/// the play is one of such a session.
+/// goes on with the label's commands up to its leaving, and closes then or at the end of the play; each command of the
+/// play is one of such a session; and no two commands begin the same one.
 pub fn labels_have_whole_sessions()
     ensures whole { (host : Host) (old new : Around) (ended : Bool) (how : PlayedEnd) (play : Play host old new (IsTrue ended) how) (front later : List Turn) (first : Spoken) (closing : List HistoryEntry)
         → IsLegal new.seen → all_turns play.lined.turns play.lined.stop ≡ front ++ Spoke first closing ∷ later → HasNone front first.label
         → IsWholeSession host new.seen first.session first (commands_behind first later) }
     ensures every { (host : Host) (old new : Around) (ended : Bool) (how : PlayedEnd) (play : Play host old new (IsTrue ended) how) (front later : List Turn) (spoken : Spoken) (closing : List HistoryEntry)
         → all_turns play.lined.turns play.lined.stop ≡ front ++ Spoke spoken closing ∷ later → IsInSession front spoken closing later }
+    ensures apart { (host : Host) (old new : Around) (ended : Bool) (how : PlayedEnd) (play : Play host old new (IsTrue ended) how) (front later other_front other_later : List Turn) (first other : Spoken) (closing other_closing : List HistoryEntry)
+        → IsLegal new.seen → all_turns play.lined.turns play.lined.stop ≡ front ++ Spoke first closing ∷ later → HasNone front first.label
+        → all_turns play.lined.turns play.lined.stop ≡ other_front ++ Spoke other other_closing ∷ other_later → HasNone other_front other.label → first.session ≡ other.session → front ≡ other_front }
 {}
