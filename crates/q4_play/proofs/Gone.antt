@@ -119,7 +119,7 @@ next_closed m s (Some Empty) = refl
 next_closed m s (Some (Owner t n)) = refl
 next_closed m s None = refl
 
-next_stepped : (m : MachineState) (s : ℕ) (call : Call) → MayStep m s call → m.next_session ≤ (step m s call).0.next_session
+pub next_stepped : (m : MachineState) (s : ℕ) (call : Call) → MayStep m s call → m.next_session ≤ (step m s call).0.next_session
 next_stepped m s (Opened tables) may = absurd may
 next_stepped m s Open may = omega arith
 next_stepped m s (Insert t row) may = let same = next_inserted m t row (check_of (table_at m.tables t) row None) in omega (arith, same)
@@ -172,7 +172,7 @@ none_above low next k (x ∷ xs) rise above =
     let differs : (x.session == k) ≡ false = ne_eqb x.session k (λ is. omega (arith, is, rise.1, above)) in
     ap (λ (b : Bool). cond b (Some x) (session_in xs k)) differs ∙ none_above x.session next k xs rise.2 above
 
-open_below : (m : MachineState) (k : ℕ) → IsValid m → IsSessionOpen m k → k < m.next_session
+pub open_below : (m : MachineState) (k : ℕ) → IsValid m → IsSessionOpen m k → k < m.next_session
 open_below m k valid there = elim (cases_lt k m.next_session) [
   | inl below ↦ below
   | inr above ↦ absurd (there (ap (option_map (λ (x : OpenSession). x.mode)) (none_above 0 m.next_session k m.sessions valid.sessions above)))

@@ -7,3 +7,10 @@ pub mod Taking
 pub mod Causing
 pub mod Gone
 pub mod Granting
+pub mod Fresh
+pub mod Own
+pub mod Seats
+pub mod Course
+pub mod Wholes
+pub mod Since
+pub mod Apart

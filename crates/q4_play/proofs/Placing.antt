@@ -14,13 +14,13 @@ use Rattle.q4_play.specs.Labels.{IsLabel, last_label, nobody, session_at, with_s
 use Rattle.q4_play.specs.Seated.{IsSeated}
 use Rattle.q4_play.proofs.Staying.{IsUnclosed, of_all, stays_open, unclosed_none, unclosed_one, other_session}
 
-none_some : (x : ℕ) → None ≡ Some x → ⊥
+pub none_some : (x : ℕ) → None ≡ Some x → ⊥
 none_some x is = cc is
 
-some_is : (x y : ℕ) → Some x ≡ Some y → x ≡ y
+pub some_is : (x y : ℕ) → Some x ≡ Some y → x ≡ y
 some_is x y is = cc is
 
-nobody_at : (place : ℕ) → get_or nobody place None ≡ None
+pub nobody_at : (place : ℕ) → get_or nobody place None ≡ None
 nobody_at place = elim (cases_lt place last_label) [
   | inl inside ↦ get_or-replicate last_label place None None inside
   | inr outside ↦ get_or_past nobody place None (let size = length-replicate {A = Option ℕ} last_label None in omega (arith, size, outside))
@@ -71,14 +71,14 @@ seated_none seen grown seen' caller seating history legal none seated =
 -- ## Seats that change
 
 -- what stands at a place after one was set
-read_set : (seating : List (Option ℕ)) (at place k : ℕ) (new : Option ℕ) → at < length seating → get_or (set seating at new) place None ≡ Some k
+pub read_set : (seating : List (Option ℕ)) (at place k : ℕ) (new : Option ℕ) → at < length seating → get_or (set seating at new) place None ≡ Some k
     → ((place ≡ at) × (new ≡ Some k)) ⊎ ((place ≡ at → ⊥) × (get_or seating place None ≡ Some k))
 read_set seating at place k new inside is = elim (cases_eq place at) [
   | inl same ↦ inl (same, sym (get_or-set_same seating at new None inside) ∙ ap (λ (p : ℕ). get_or (set seating at new) p None) (sym same) ∙ is)
   | inr other ↦ inr (other, sym (get_or-set_other seating at place new None other) ∙ is)
 ]
 
-inside_seats : (seating : List (Option ℕ)) (label : ℕ) → length seating ≡ last_label → IsLabel label → label - 1 < length seating
+pub inside_seats : (seating : List (Option ℕ)) (label : ℕ) → length seating ≡ last_label → IsLabel label → label - 1 < length seating
 inside_seats seating label size is = omega (arith, size, is)
 
 -- a label gets a session that is open, and that no other label has
@@ -167,7 +167,7 @@ left_seat seen seen' caller caller' s label before seating seating' by grows leg
     seated_as seen' caller caller' (with_seat seating label None) seating' by seats
     (seated_left seen grows.0 seen' caller s label seating grows.1 legal grows.2 (ap (λ (x : List (Option ℕ)). session_at x label) took ∙ session_there before label s size is_label) is_label seated)
 
-none_opened : (limit caller : ℕ) (seen grown : List Entry) (f : DeskFault) → IsOpened limit seen grown caller (Err f) → of_caller caller grown ≡ []
+pub none_opened : (limit caller : ℕ) (seen grown : List Entry) (f : DeskFault) → IsOpened limit seen grown caller (Err f) → of_caller caller grown ≡ []
 none_opened limit caller seen grown fault.Memory refused = refused
 none_opened limit caller seen grown (fault.Worn count) refused = refused.0
 

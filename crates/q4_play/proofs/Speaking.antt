@@ -57,7 +57,7 @@ obeys_session : (client : Client) (before : List Entry) (patience : PatienceStat
 obeys_session client before patience e command (Some call) calls = calls.part.session_is
 obeys_session client before patience e command None says = subst (λ (grown : List Entry). All (λ (x : Entry). x.session ≡ client.session) (of_caller client.caller grown)) (sym says.none) (All-nil (λ (x : Entry). x.session ≡ client.session))
 
-does_session : (client : Client) (before : List Entry) (patience : PatienceState) (e : Exchange) (read : Result Command CommandFault) → Does client before patience e read → All (λ (x : Entry). x.session ≡ client.session) (of_caller client.caller e.grown)
+pub does_session : (client : Client) (before : List Entry) (patience : PatienceState) (e : Exchange) (read : Result Command CommandFault) → Does client before patience e read → All (λ (x : Entry). x.session ≡ client.session) (of_caller client.caller e.grown)
 does_session client before patience e (Ok command) does = obeys_session client before patience e command (call_of command) does
 does_session client before patience e (Err fault) says = subst (λ (grown : List Entry). All (λ (x : Entry). x.session ≡ client.session) (of_caller client.caller grown)) (sym says.none) (All-nil (λ (x : Entry). x.session ≡ client.session))
 

@@ -52,7 +52,7 @@ flat_map_push : {X Y : Type 0} (f : X → List Y) (xs : List X) (x : X) → flat
 flat_map_push f [] x = append-nil (f x)
 flat_map_push f (y ∷ ys) x = ap (λ zs. f y ++ zs) (flat_map_push f ys x) ∙ sym (append_assoc (f y) (flat_map f ys) (f x))
 
-seating_push : (seating : List (Option ℕ)) (turns : List Turn) (turn : Turn) → seating_after seating (turns ++ turn ∷ []) ≡ seating_behind (seating_after seating turns) turn
+pub seating_push : (seating : List (Option ℕ)) (turns : List Turn) (turn : Turn) → seating_after seating (turns ++ turn ∷ []) ≡ seating_behind (seating_after seating turns) turn
 seating_push seating [] turn = refl
 seating_push seating (t ∷ ts) turn = seating_push (seating_behind seating t) ts turn
 

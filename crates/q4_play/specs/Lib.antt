@@ -3,3 +3,4 @@ pub mod Seated
 pub mod Turns
 pub mod Plays
 pub mod Playing
+pub mod Whole

@@ -7,7 +7,9 @@ mod plays;
 mod seating;
 mod turns;
 
-pub use laws::{closed_sessions_stay_closed, granted_commands_are_done};
+pub use laws::{
+    closed_sessions_stay_closed, granted_commands_are_done, labels_have_whole_sessions,
+};
 pub use plays::{PlayEnd, play};
 
 #[cfg(test)]
