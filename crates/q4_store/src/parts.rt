@@ -68,7 +68,7 @@ pub(crate) fn prepare<D: Disk>(
     requires { IsTrue (D.told disk.old).honest → Within (D.told disk.old).images (IsReady known.old side) }
     ensures honest { (D.told disk.new).honest ≡ (D.told disk.old).honest }
     ensures faults { CountsFault result (D.told disk.old).faults (D.told disk.new).faults }
-    // At each moment inside it each image reads as one that there was, and so, whether it fails or not, behind it.
+    // At each moment inside it each image reads as one that there was, and so does each one then, whether it fails or not.
     ensures any_moment { (columns : List Column) → IsTrue (D.told disk.old).honest → LeavesOnly (D.told disk.old) (D.told disk.new) (ReadsAs columns (D.told disk.old).images) }
     ensures reads { (columns : List Column) → IsTrue (D.told disk.old).honest → Within (D.told disk.new).images (ReadsAs columns (D.told disk.old).images) }
     // After success the gate is closed in each image, and what is read is that gate and zeros.
@@ -108,8 +108,8 @@ pub(crate) fn fill<D: Disk>(
         → Within (D.told disk.new).images (λ c. IsShut (on side c)) }
     ensures bytes { OnOk result (IsTrue (D.told disk.old).honest → on side (D.told disk.new).bytes ≡ written (written (on side (D.told disk.old).bytes) at last.now) 1 header.now) }
     ensures only { OnOk result (IsTrue (D.told disk.old).honest → Within (D.told disk.new).images (λ c. on side c ≡ on side (D.told disk.new).bytes)) }
-    // After success a table is there but for its gate, where it is with an open gate what the bytes written stand for, and where the
-    // other side is behind it.
+    // After success, where the bytes as they are written are with an open gate a side of a table, and the other side is behind it, that
+    // table is there but for its gate.
     ensures filled { OnOk result ((columns : List Column) (table : TableState) (generation len : ℕ) → IsTrue (D.told disk.old).honest → Within (D.told disk.old).images (λ c. IsShut (on side c))
         → IsSide columns (opened (written (written (on side (D.told disk.old).bytes) at last.now) 1 header.now)) table generation len → Within (D.told disk.old).images (λ c. IsBehind generation (on (other side) c))
         → IsFilled (D.told disk.new) side columns table generation len) }

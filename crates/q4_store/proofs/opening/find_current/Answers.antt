@@ -2,9 +2,9 @@ use Rattle.std.proofs.Common.{inl}
 use Rattle.q4_disk.proofs.Moments.{weaker}
 use Rattle.q4_store.specs.Reading.{ReadsAs}
 use Rattle.q4_store.specs.Device.{load_calls}
+use Rattle.q4_store.proofs.Quiet.{as_itself}
 use Rattle.q4_store.proofs.Runs.{current_read}
 use Rattle.q4_store.proofs.Finding.{settled_found, load_fails}
-use Rattle.q4_store.proofs.Quiet.{as_itself}
 use Rattle.q4_store.proofs.opening.find_current.Goals as goal
 
 pub returns-in-Ok-clause-settled : goal.returns-in-Ok-clause-settled
@@ -33,4 +33,11 @@ returns-in-Err-clause-device_err g c =
     (load_calls c.args.side loads.0, current_read (g.D.Disk.told c.args.disk.now) c.args.side c.args.known loads.0 c.requires.chosen loads.1, loads.2)
 
 pub returns-in-Ok-clause-any_moment : goal.returns-in-Ok-clause-any_moment
-returns-in-Ok-clause-any_moment g c h = weaker _ _ _ (ReadsAs c.args.columns.now (g.D.Disk.told c.args.disk.now).images) (c.load.ensures.rests h).only (as_itself c.args.columns.now (g.D.Disk.told c.args.disk.now).images)
+returns-in-Ok-clause-any_moment g c h =
+    let images = (g.D.Disk.told c.args.disk.now).images in
+    weaker _ _ images (ReadsAs c.args.columns.now images) (c.load.ensures.rests h).only (as_itself c.args.columns.now images)
+
+pub returns-in-Err-clause-any_moment : goal.returns-in-Err-clause-any_moment
+returns-in-Err-clause-any_moment g c h =
+    let images = (g.D.Disk.told c.args.disk.now).images in
+    weaker _ _ images (ReadsAs c.args.columns.now images) (c.load.ensures.rests h).only (as_itself c.args.columns.now images)

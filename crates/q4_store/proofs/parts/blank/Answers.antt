@@ -1,7 +1,7 @@
-use Rattle.std.proofs.Common.{List, [], replicate, refl, inl, inr, IsTrue, arith}
+use Rattle.std.proofs.Common.{List, [], ◌∙◌, replicate, refl, inl, inr, IsTrue, arith}
 use Rattle.q4_value.specs.declared.column.Column.{Column}
 use Rattle.q4_disk.specs.Images.{Within}
-use Rattle.q4_disk.proofs.Moments.{Along, other_stepped}
+use Rattle.q4_disk.proofs.Moments.{Along, other_stepped, other_then}
 use Rattle.q4_store.specs.Reading.{ReadsAs}
 use Rattle.q4_store.specs.Device.{blank_calls}
 use Rattle.q4_store.proofs.Runs.{broke}
@@ -56,3 +56,9 @@ returns-in_err-write-clause-device g c =
 
 pub returns-clause-device : goal.returns-clause-device
 returns-clause-device g c = (c.cut.new.self, (c.in_ok-cut.ensures.call, c.in_ok-cut.ensures.cut), (c.write.new.self, (c.in_ok-write.ensures.call, c.in_ok-write.ensures.write), refl))
+
+pub returns-in_err-write-clause-other : goal.returns-in_err-write-clause-other
+returns-in_err-write-clause-other g c h = other_then (other_stepped (c.cut.ensures.cut h)) (other_stepped (c.write.ensures.write (c.cut.ensures.call.counted.honest ∙ h)))
+
+pub returns-clause-other : goal.returns-clause-other
+returns-clause-other g c h = other_then (other_stepped (c.cut.ensures.cut h)) (other_stepped (c.write.ensures.write (c.cut.ensures.call.counted.honest ∙ h)))
