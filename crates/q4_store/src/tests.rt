@@ -253,13 +253,19 @@ fn many_rows_are_read_again(rt: HostRuntime) {
     assert_eq!(rt; store.length(), 66_050);
     assert_eq!(rt; store.commit(), Ok(()));
     let (mut store, table) = opened(&rt, alloc, store.give_back());
-    assert_eq!(rt; (table.count(), table.next(), store.length()), (3000, 3001, 66_050));
+    assert_eq!(rt;
+        (table.count(), table.next(), store.length()),
+        (3000, 3001, 66_050)
+    );
     for number in 1..3001 {
         end(&rt, &mut store, number);
     }
     append(&rt, &mut store, 3001, &row, None);
     assert_eq!(rt; store.commit(), Ok(()));
-    assert_eq!(rt; given(&rt, alloc, store.give_back()), Ok((1, 1, 3002, 93_077)));
+    assert_eq!(rt;
+        given(&rt, alloc, store.give_back()),
+        Ok((1, 1, 3002, 93_077))
+    );
 }
 
 #[test]
