@@ -1,10 +1,9 @@
 -- How long changes make a side.
-use Rattle.std.proofs.Common.{◌≡◌, ℕ, ◌+◌, List, [], ◌∷◌, ◌++◌, ◌↔◌, Option, None, Some, length, refl, sym, ◌∙◌, ap, arith, length-append}
+use Rattle.std.proofs.Common.{◌≡◌, ℕ, ◌+◌, List, [], ◌∷◌, ◌++◌, ◌↔◌, None, Some, length, refl, sym, ◌∙◌, ap, arith, length-append}
 use Rattle.std.specs.List.{sum_by}
 use Rattle.std.proofs.lemmas.List.Concat.{flat_map-cons}
 use Rattle.std.proofs.lemmas.List.Sums.{sum_by-cons}
 use Rattle.q4_value.specs.Spelling.{row_bytes}
-use Rattle.q4_value.specs.Row.{row_size}
 use Rattle.q4_value.proofs.Spelled.{length-row_bytes}
 use Rattle.q4_record.specs.declared.head.Head.{Head}
 use Rattle.q4_record.specs.declared.head.Head.TheVariants.{Insert, End, Mark, Next}
@@ -12,7 +11,7 @@ use Rattle.q4_record.specs.Record.{Record, head_bytes, record_bytes, records_byt
 use Rattle.q4_store.specs.Lengths.{head_size, change_size, waiting_size, change_cost}
 use Rattle.q4_disk.specs.Told.{Told}
 use Rattle.q4_store.specs.Content.{Content}
-use Rattle.q4_store.specs.Store.{Stored, StandsFor, pending_length, batch_size, length_of, cost_of}
+use Rattle.q4_store.specs.Store.{Stored, StandsFor, pending_length, batch_size, length_of}
 use Rattle.q4_store.proofs.Commits.{some_bytes, no_change, some_wait}
 
 head_length : (head : Head) → length (head_bytes head) ≡ head_size head

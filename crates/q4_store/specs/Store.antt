@@ -1,5 +1,5 @@
 -- What contracts see of a store, and what it stands for.
-use Rattle.std.specs.Prelude.{◌≡◌, ◌<◌, ◌≤◌, ◌+◌, ◌*◌, ℕ, Bool, true, false, List, [], ◌∷◌, Option, None, All, IsTrue, length}
+use Rattle.std.specs.Prelude.{◌≡◌, ◌<◌, ◌≤◌, ◌+◌, ◌*◌, ℕ, Bool, false, List, [], ◌∷◌, Option, None, All, IsTrue, length}
 use Rattle.std.specs.Option.{ForSome}
 use Rattle.q4_value.specs.declared.row.Value.{Value}
 use Rattle.q4_value.specs.Row.{Fits}

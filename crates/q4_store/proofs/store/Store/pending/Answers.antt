@@ -1,4 +1,4 @@
-use Rattle.std.proofs.Common.{Bool, true, false, not, IsTrue, ◌≡◌, ◌↔◌, subst, sym}
+use Rattle.std.proofs.Common.{Bool, true, false, not, IsTrue, ◌↔◌, subst, sym}
 use Rattle.q4_store.specs.Store.{StandsFor}
 use Rattle.q4_store.proofs.Lengths.{store_waits}
 use Rattle.q4_store.proofs.store.Store.pending.Goals as goal

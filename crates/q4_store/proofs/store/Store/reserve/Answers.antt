@@ -1,4 +1,4 @@
-use Rattle.std.proofs.Common.{sym, arith}
+use Rattle.std.proofs.Common.{arith}
 use Rattle.q4_store.proofs.Lengths.{adds_up}
 use Rattle.q4_store.proofs.store.Store.reserve.Goals as goal
 
