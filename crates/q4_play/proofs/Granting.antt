@@ -2,19 +2,11 @@
 use Rattle.std.proofs.Common.{◌≡◌, ◌++◌, ◌∷◌, ◌∙◌, [], List, ℕ, Option, refl, sym, ap, subst, append_assoc, append-nil}
 use Rattle.q4_machine.specs.declared.entry.Entry.{Entry}
 use Rattle.q4_machine.specs.Patience.{PatienceState}
+use Rattle.q4_machine.proofs.Histories.{cons_head, cons_tail}
 use Rattle.q4_session.specs.Exchanges.{Client, Exchange, IsExchange}
 use Rattle.q4_session.specs.Standing.{IsGranted, IsDone}
-use Rattle.q4_session.proofs.Standing.{lines_done}
+use Rattle.q4_session.proofs.Standing.{done_as, lines_done}
 use Rattle.q4_play.specs.Turns.{Host, Spoken, Turn, Spoke, IsTurn, IsSpoken, AreTurns, client_of, grown_of, grown_by, seating_behind, patience_behind}
-
-head_is : (x y : Turn) (xs ys : List Turn) → x ∷ xs ≡ y ∷ ys → x ≡ y
-head_is x y xs ys is = cc is
-
-tail_is : (x y : Turn) (xs ys : List Turn) → x ∷ xs ≡ y ∷ ys → xs ≡ ys
-tail_is x y xs ys is = cc is
-
-done_as : (client : Client) (start start' history history' : List Entry) (exchange : Exchange) → start ≡ start' → history ≡ history' → IsDone client start history exchange → IsDone client start' history' exchange
-done_as client start start' history history' exchange here same done = subst (λ (s : List Entry). IsDone client s history' exchange) here (subst (λ (h : List Entry). IsDone client start h exchange) same done)
 
 -- one command, with what its closing and all later lines added
 command_done : (client : Client) (before opening closing later : List Entry) (patience : PatienceState) (e : Exchange) → IsExchange client (before ++ opening) patience e → IsGranted e.outcome
@@ -32,14 +24,14 @@ turns_done : (host : Host) (before : List Entry) (seating : List (Option ℕ)) (
 turns_done host before seating patience [] [] back spoken closing more are cut granted = cc cut
 turns_done host before seating patience [] (x ∷ front) back spoken closing more are cut granted = cc cut
 turns_done host before seating patience (x ∷ xs) [] back spoken closing more are cut granted =
-    let same : x ≡ Spoke spoken closing = head_is x (Spoke spoken closing) xs back cut in
+    let same : x ≡ Spoke spoken closing = cons_head cut in
     let is = subst (IsTurn host before seating patience) same are.0 in
     let done = command_done (client_of host spoken.session) before spoken.opening closing (grown_by xs ++ more) patience spoken.exchange is.0.exchanges granted in
     done_as (client_of host spoken.session) ((before ++ []) ++ spoken.opening) ((before ++ []) ++ spoken.opening) (before ++ (grown_of (Spoke spoken closing) ++ (grown_by xs ++ more))) (before ++ ((grown_of x ++ grown_by xs) ++ more)) spoken.exchange refl
     (ap (λ (h : List Entry). before ++ h) (sym (append_assoc (grown_of (Spoke spoken closing)) (grown_by xs) more)) ∙ ap (λ (t : Turn). before ++ ((grown_of t ++ grown_by xs) ++ more)) (sym same)) done
 turns_done host before seating patience (x ∷ xs) (y ∷ front) back spoken closing more are cut granted =
-    let same : x ≡ y = head_is x y xs (front ++ Spoke spoken closing ∷ back) cut in
-    let later = turns_done host (before ++ grown_of x) (seating_behind seating x) (patience_behind patience x) xs front back spoken closing more are.1 (tail_is x y xs (front ++ Spoke spoken closing ∷ back) cut) granted in
+    let same : x ≡ y = cons_head cut in
+    let later = turns_done host (before ++ grown_of x) (seating_behind seating x) (patience_behind patience x) xs front back spoken closing more are.1 (cons_tail cut) granted in
     done_as (client_of host spoken.session) (((before ++ grown_of x) ++ grown_by front) ++ spoken.opening) ((before ++ (grown_of y ++ grown_by front)) ++ spoken.opening)
     ((before ++ grown_of x) ++ (grown_by xs ++ more)) (before ++ ((grown_of x ++ grown_by xs) ++ more)) spoken.exchange
     (ap (λ (h : List Entry). h ++ spoken.opening) (append_assoc before (grown_of x) (grown_by front)) ∙ ap (λ (t : Turn). (before ++ (grown_of t ++ grown_by front)) ++ spoken.opening) same)

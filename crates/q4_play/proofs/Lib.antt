@@ -14,3 +14,4 @@ pub mod Course
 pub mod Wholes
 pub mod Since
 pub mod Apart
+pub mod Owned

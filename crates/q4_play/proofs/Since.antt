@@ -17,20 +17,20 @@ use Rattle.q4_play.proofs.Course.{bye_or, GoesOn, bye_last, own_commands, other_
 use Rattle.q4_play.proofs.Wholes.{append_cut, cut_is, turns_split, size_nobody}
 
 -- The label has had this session since a command opened it, and given these commands from there on.
-record Since (label k : ℕ) (front : List Turn) : Type 0 where
-  start : List Turn
-  first : Spoken
-  closing : List Entry
-  between : List Turn
-  cut : front ≡ start ++ Spoke first closing ∷ between
-  opens : HasNone start label
-  label_is : first.label ≡ label
-  session_is : first.session ≡ k
-  earlier : List Spoken
-  commands : (rest : List Turn) → commands_of label (Spoke first closing ∷ (between ++ rest)) ≡ earlier ++ commands_of label rest
+pub record Since (label k : ℕ) (front : List Turn) : Type 0 where
+  pub start : List Turn
+  pub first : Spoken
+  pub closing : List Entry
+  pub between : List Turn
+  pub cut : front ≡ start ++ Spoke first closing ∷ between
+  pub opens : HasNone start label
+  pub label_is : first.label ≡ label
+  pub session_is : first.session ≡ k
+  pub earlier : List Spoken
+  pub commands : (rest : List Turn) → commands_of label (Spoke first closing ∷ (between ++ rest)) ≡ earlier ++ commands_of label rest
 
 -- each label's session
-abbrev AllSince : List Turn → List (Option ℕ) → Type 0
+abbrev pub AllSince : List Turn → List (Option ℕ) → Type 0
 AllSince front seating = (label k : ℕ) → IsLabel label → session_at seating label ≡ Some k → Since label k front
 
 -- one more turn, with some commands of the label
@@ -127,7 +127,7 @@ since_walk host before patience front (turn ∷ turns) are since =
     (since_walk host (before ++ grown_of turn) (patience_behind patience turn) (front ++ turn ∷ []) turns (subst (λ (x : List (Option ℕ)). AreTurns host (before ++ grown_of turn) x (patience_behind patience turn) turns) seats are.1) here)
 
 -- after any turns of a play
-since_nobody : (host : Host) (before : List Entry) (patience : PatienceState) (turns : List Turn) → AreTurns host before nobody patience turns → AllSince turns (seating_after nobody turns)
+pub since_nobody : (host : Host) (before : List Entry) (patience : PatienceState) (turns : List Turn) → AreTurns host before nobody patience turns → AllSince turns (seating_after nobody turns)
 since_nobody host before patience turns are = since_walk host before patience [] turns are (λ label k is_label at. absurd (none_some k (sym (nobody_at (label - 1)) ∙ at)))
 
 -- ## The session of a command

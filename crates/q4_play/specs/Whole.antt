@@ -106,3 +106,17 @@ pub record IsInSession (front : List Turn) (spoken : Spoken) (closing : List Ent
   pub earlier : List Spoken
   pub upto : first ∷ commands_behind first between ≡ earlier ++ spoken ∷ []
   pub among : first ∷ commands_behind first (between ++ later) ≡ earlier ++ spoken ∷ commands_behind spoken later
+
+-- A command of these turns opened this session.
+pub record WasOpened (turns : List Turn) (session : ℕ) : Type 0 where
+  pub front : List Turn
+  pub first : Spoken
+  pub closing : List Entry
+  pub later : List Turn
+  pub cut : turns ≡ front ++ Spoke first closing ∷ later
+  pub opens : HasNone front first.label
+  pub session_is : first.session ≡ session
+
+-- The caller's entries are of sessions that commands of these turns opened.
+abbrev pub AreOfSessions : ℕ → List Turn → List Entry → Type 0
+AreOfSessions caller turns entries = All (λ e. e.caller ≡ caller → WasOpened turns e.session) entries

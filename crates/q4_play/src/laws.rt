@@ -11,7 +11,7 @@ ghost use Rattle.q4_session.specs.Standing.{IsGranted, IsDone};
 ghost use Rattle.q4_play.specs.declared.plays.PlayEnd.{PlayEnd as PlayedEnd};
 ghost use Rattle.q4_play.specs.Turns.{Host, Spoken, Turn, Spoke, AreTurns, client_of, grown_by};
 ghost use Rattle.q4_play.specs.Plays.{Play};
-ghost use Rattle.q4_play.specs.Whole.{all_turns, HasNone, commands_behind, IsWholeSession, IsInSession};
+ghost use Rattle.q4_play.specs.Whole.{all_turns, HasNone, commands_behind, IsWholeSession, IsInSession, AreOfSessions};
 
 /// A law: a session that an entry of a legal history closed is not open at its end.
 pub fn closed_sessions_stay_closed()
@@ -20,7 +20,8 @@ pub fn closed_sessions_stay_closed()
 
 /// A law: in every play that left a legal history, a command of a label that has no session begins a whole session, which
 /// goes on with the label's commands up to its leaving, and closes then or at the end of the play; each command of the
-/// play is one of such a session; and no two commands begin the same one.
+/// play is one of such a session; no two commands begin the same one; and each entry of the caller in what the history grew
+/// by is of one that a command began.
 pub fn labels_have_whole_sessions()
     ensures whole { (host : Host) (old new : Around) (ended : Bool) (how : PlayedEnd) (play : Play host old new (IsTrue ended) how) (front later : List Turn) (first : Spoken) (closing : List HistoryEntry)
         → IsLegal new.seen → all_turns play.lined.turns play.lined.stop ≡ front ++ Spoke first closing ∷ later → HasNone front first.label
@@ -30,6 +31,8 @@ pub fn labels_have_whole_sessions()
     ensures apart { (host : Host) (old new : Around) (ended : Bool) (how : PlayedEnd) (play : Play host old new (IsTrue ended) how) (front later other_front other_later : List Turn) (first other : Spoken) (closing other_closing : List HistoryEntry)
         → IsLegal new.seen → all_turns play.lined.turns play.lined.stop ≡ front ++ Spoke first closing ∷ later → HasNone front first.label
         → all_turns play.lined.turns play.lined.stop ≡ other_front ++ Spoke other other_closing ∷ other_later → HasNone other_front other.label → first.session ≡ other.session → front ≡ other_front }
+    ensures owned { (host : Host) (old new : Around) (ended : Bool) (how : PlayedEnd) (play : Play host old new (IsTrue ended) how) (grown : List HistoryEntry)
+        → new.seen ≡ old.seen ++ grown → AreOfSessions host.caller (all_turns play.lined.turns play.lined.stop) grown }
 {}
 
 /// A law: wherever a command behind a label was answered with something other than a refusal or `bye`, what the history

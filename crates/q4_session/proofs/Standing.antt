@@ -9,17 +9,12 @@ use Rattle.q4_machine.specs.declared.entry.Call.TheVariants.{Sync}
 use Rattle.q4_machine.specs.History.{IsSettled}
 use Rattle.q4_machine.specs.Parts.{Answer, Replied, WantsMemory, Worn, IsPart}
 use Rattle.q4_machine.specs.Patience.{PatienceState}
+use Rattle.q4_machine.proofs.Histories.{cons_head, cons_tail}
 use Rattle.q4_proto.specs.declared.command.Command.{Command}
 use Rattle.q4_proto.specs.declared.command.CommandFault.{CommandFault}
 use Rattle.q4_proto.specs.Commands.{Reads}
 use Rattle.q4_session.specs.Exchanges.{Client, Exchange, Obeys, Does, IsExchange, AreExchanges, call_of, answer_outcome, grown_by}
 use Rattle.q4_session.specs.Standing.{IsGranted, IsDone}
-
-head_is : {X : Type 0} (x y : X) (xs ys : List X) → x ∷ xs ≡ y ∷ ys → x ≡ y
-head_is x y xs ys is = cc is
-
-tail_is : {X : Type 0} (x y : X) (xs ys : List X) → x ∷ xs ≡ y ∷ ys → xs ≡ ys
-tail_is x y xs ys is = cc is
 
 -- ## A settled place stays settled
 
@@ -32,11 +27,11 @@ record CutInside {X : Type 0} (xs more before : List X) (e : X) (later : List X)
 cut_inside : {X : Type 0} (xs more before : List X) (e : X) (later : List X) → xs ++ more ≡ before ++ e ∷ later → length before < length xs → CutInside xs more before e later
 cut_inside [] more before e later is short = absurd (omega arith)
 cut_inside (x ∷ xs) more [] e later is short =
-    record { rest = xs; front = ap (λ (y : _). y ∷ xs) (head_is x e (xs ++ more) later is); back = sym (tail_is x e (xs ++ more) later is) }
+    record { rest = xs; front = ap (λ (y : _). y ∷ xs) (cons_head is); back = sym (cons_tail is) }
 cut_inside (x ∷ xs) more (y ∷ before) e later is short =
     let shorter : length before < length xs = omega arith in
-    let inside = cut_inside xs more before e later (tail_is x y (xs ++ more) (before ++ e ∷ later) is) shorter in
-    record { rest = inside.rest; front = ap (λ (z : _). z ∷ xs) (head_is x y (xs ++ more) (before ++ e ∷ later) is) ∙ ap (λ (zs : List _). y ∷ zs) inside.front; back = inside.back }
+    let inside = cut_inside xs more before e later (cons_tail is) shorter in
+    record { rest = inside.rest; front = ap (λ (z : _). z ∷ xs) (cons_head is) ∙ ap (λ (zs : List _). y ∷ zs) inside.front; back = inside.back }
 
 any_more : (xs more : List Entry) → Any (λ (x : Entry). x.call ≡ Sync) xs → Any (λ (x : Entry). x.call ≡ Sync) (xs ++ more)
 any_more xs more (k, x, inside, is, sync) =
@@ -113,7 +108,8 @@ done_more client start history more exchange done =
       settled = settled_more history more (length (start ++ done.front)) size done.settled;
     }
 
-done_as : (client : Client) (start start' history history' : List Entry) (exchange : Exchange) → start ≡ start' → history ≡ history' → IsDone client start history exchange → IsDone client start' history' exchange
+-- the same, said of the same parts
+pub done_as : (client : Client) (start start' history history' : List Entry) (exchange : Exchange) → start ≡ start' → history ≡ history' → IsDone client start history exchange → IsDone client start' history' exchange
 done_as client start start' history history' exchange here same done = subst (λ (s : List Entry). IsDone client s history' exchange) here (subst (λ (h : List Entry). IsDone client start h exchange) same done)
 
 conversation_done : (client : Client) (before : List Entry) (patience : PatienceState) (exchanges front back : List Exchange) (e : Exchange)
@@ -121,13 +117,13 @@ conversation_done : (client : Client) (before : List Entry) (patience : Patience
 conversation_done client before patience [] [] back e are cut granted = cc cut
 conversation_done client before patience [] (x ∷ front) back e are cut granted = cc cut
 conversation_done client before patience (x ∷ xs) [] back e are cut granted =
-    let same : x ≡ e = head_is x e xs back cut in
+    let same : x ≡ e = cons_head cut in
     let done : IsDone client before (before ++ x.grown) x = line_done client before patience x are.0 (subst (λ (y : Exchange). IsGranted y.outcome) (sym same) granted) in
     let more = done_more client before (before ++ x.grown) (grown_by xs) x done in
     subst (λ (y : Exchange). IsDone client (before ++ []) (before ++ (x.grown ++ grown_by xs)) y) same (done_as client before (before ++ []) ((before ++ x.grown) ++ grown_by xs) (before ++ (x.grown ++ grown_by xs)) x (sym (append-nil before)) (append_assoc before x.grown (grown_by xs)) more)
 conversation_done client before patience (x ∷ xs) (y ∷ front) back e are cut granted =
-    let same : x ≡ y = head_is x y xs (front ++ e ∷ back) cut in
-    let later = conversation_done client (before ++ x.grown) x.patience xs front back e are.1 (tail_is x y xs (front ++ e ∷ back) cut) granted in
+    let same : x ≡ y = cons_head cut in
+    let later = conversation_done client (before ++ x.grown) x.patience xs front back e are.1 (cons_tail cut) granted in
     done_as client ((before ++ x.grown) ++ grown_by front) (before ++ (y.grown ++ grown_by front)) ((before ++ x.grown) ++ grown_by xs) (before ++ (x.grown ++ grown_by xs)) e
     (append_assoc before x.grown (grown_by front) ∙ ap (λ (z : Exchange). before ++ (z.grown ++ grown_by front)) same) (append_assoc before x.grown (grown_by xs)) later
 
