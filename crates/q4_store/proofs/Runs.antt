@@ -15,13 +15,9 @@ use Rattle.q4_store.specs.declared.head.Choice.TheVariants as choice
 use Rattle.q4_store.specs.Reading.{IsCurrent}
 use Rattle.q4_store.specs.Parts.{IsShut}
 use Rattle.q4_store.specs.Looking.{IsChoice}
-use Rattle.q4_store.specs.Device.{DeviceCall, IsMade, AllMade, BrokeOff, Makes, StopsEarly, Stops, load_calls, Size, Read, ReadsCurrent, WritesNew, IsBehindLook, HasOpened, HasStopped, look_calls, create_calls}
+use Rattle.q4_store.specs.Device.{DeviceCall, AllMade, BrokeOff, Makes, StopsEarly, Stops, load_calls, Size, Read, ReadsCurrent, WritesNew, IsBehindLook, HasOpened, HasStopped, look_calls, create_calls}
 
 module _ {D : Type 0} (told : D → Told) where
-  -- one call
-  pub made_one : (call : DeviceCall) (a b : D) → IsMade call (Ok tt) (told a) (told b) → AllMade told (call ∷ []) a b
-  made_one call a b made = (b, made, refl)
-
   -- a run that fails broke off
   pub broke : {T : Type 0} (calls : List DeviceCall) (result : Result T DiskFailed) (a b : D) → IsErr result → BrokeOff told calls a b → Makes told calls result a b
   broke calls (Ok x) a b fails off = absurd (cc fails)

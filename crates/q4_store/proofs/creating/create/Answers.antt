@@ -18,7 +18,7 @@ use Rattle.q4_store.proofs.Drafts.{draft_stands, draft_calls}
 use Rattle.q4_store.proofs.Runs.{broke, made_then, broke_first, broke_then}
 use Rattle.q4_store.proofs.creating.create.Given as given
 use Rattle.q4_store.proofs.creating.create.Goals as goal
-use Rattle.q4_store.proofs.creating.create.Goals.{Start, After-prepare, In_ok-prepare, After-fill, In_ok-fill, After-switch}
+use Rattle.q4_store.proofs.creating.create.Goals.{After-fill, In_ok-fill, After-switch}
 
 -- what neither side open leaves behind the new one
 still_behind : (old new : Told) (known : _) → StartsNew old known → OtherStays A old new → Within new.images (λ x. IsBehind 1 x.b)
