@@ -27,7 +27,7 @@ pub enum LineEnd {
     TooLong,
     /// The source failed.
     ReadFault,
-    /// A line that spans reads found no memory. The bytes that were taken have no newline.
+    /// There was no memory for one more read. The bytes that were taken have no newline.
     Memory,
 }
 

@@ -1,12 +1,18 @@
 -- What was answered behind a label stands settled, whatever comes behind it.
+use Rattle.std.specs.Bool.{IsTrue}
 use Rattle.std.proofs.Common.{◌≡◌, ◌++◌, ◌∷◌, ◌∙◌, [], List, ℕ, Option, refl, sym, ap, subst, append_assoc, append-nil}
 use Rattle.q4_machine.specs.declared.entry.Entry.{Entry}
 use Rattle.q4_machine.specs.Patience.{PatienceState}
 use Rattle.q4_machine.proofs.Histories.{cons_head, cons_tail}
 use Rattle.q4_session.specs.Exchanges.{Client, Exchange, IsExchange}
 use Rattle.q4_session.specs.Standing.{IsGranted, IsDone}
+use Rattle.q4_session.specs.Sessions.{Around}
 use Rattle.q4_session.proofs.Standing.{done_as, lines_done}
-use Rattle.q4_play.specs.Turns.{Host, Spoken, Turn, Spoke, IsTurn, IsSpoken, AreTurns, client_of, grown_of, grown_by, seating_behind, patience_behind}
+use Rattle.q4_play.specs.declared.plays.PlayEnd.{PlayEnd}
+use Rattle.q4_play.specs.Labels.{nobody}
+use Rattle.q4_play.specs.Plays.{Stop, CutSpoken, IsStop, Play, stop_grown}
+use Rattle.q4_play.proofs.Wholes.{play_history}
+use Rattle.q4_play.specs.Turns.{Host, Spoken, Turn, Spoke, IsTurn, IsSpoken, AreTurns, client_of, grown_of, grown_by, seating_behind, seating_after, patience_behind, patience_after}
 
 -- one command, with what its closing and all later lines added
 command_done : (client : Client) (before opening closing later : List Entry) (patience : PatienceState) (e : Exchange) → IsExchange client (before ++ opening) patience e → IsGranted e.outcome
@@ -44,3 +50,20 @@ pub commands_done : (host : Host) (before : List Entry) (seating : List (Option 
 commands_done host before seating patience turns front back spoken closing more are cut granted =
     done_as (client_of host spoken.session) ((before ++ grown_by front) ++ spoken.opening) ((before ++ grown_by front) ++ spoken.opening) (before ++ (grown_by turns ++ more)) ((before ++ grown_by turns) ++ more) spoken.exchange refl
     (sym (append_assoc before (grown_by turns) more)) (turns_done host before seating patience turns front back spoken closing more are cut granted)
+
+-- the command whose reply the sink did not take
+pub cut_done : (host : Host) (old new : Around) (ended : _) (how : PlayEnd) (play : Play host old new (IsTrue ended) how) (spoken : Spoken) → play.lined.stop ≡ CutSpoken spoken → IsGranted spoken.exchange.outcome
+    → IsDone (client_of host spoken.session) ((old.seen ++ grown_by play.lined.turns) ++ spoken.opening) new.seen spoken.exchange
+cut_done host old new ended how play spoken stop_is granted =
+    let lined = play.lined in
+    let turns = lined.turns in
+    let before : List Entry = old.seen ++ grown_by turns in
+    let e = spoken.exchange in
+    let is : IsSpoken host before (seating_after nobody turns) (patience_after old.patience turns) spoken =
+    subst (IsStop host before (seating_after nobody turns) (patience_after old.patience turns) lined.rest (IsTrue ended)) stop_is lined.stops in
+    let whole : new.seen ≡ before ++ ((spoken.opening ++ e.grown) ++ play.closing) =
+    play_history old.seen (grown_by turns) (stop_grown lined.stop) play.closing new.seen play.before_closing lined.history play.history ∙ ap (λ (s : Stop). before ++ (stop_grown s ++ play.closing)) stop_is in
+    done_as (client_of host spoken.session) ((before ++ spoken.opening) ++ []) (before ++ spoken.opening) (((before ++ spoken.opening) ++ (e.grown ++ [])) ++ play.closing) new.seen e (append-nil (before ++ spoken.opening))
+    (ap (λ (h : List Entry). ((before ++ spoken.opening) ++ h) ++ play.closing) (append-nil e.grown) ∙ ap (λ (h : List Entry). h ++ play.closing) (append_assoc before spoken.opening e.grown)
+    ∙ append_assoc before (spoken.opening ++ e.grown) play.closing ∙ sym whole)
+    (lines_done (client_of host spoken.session) (before ++ spoken.opening) (patience_after old.patience turns) (e ∷ []) [] [] e play.closing (is.exchanges, tt) refl granted)

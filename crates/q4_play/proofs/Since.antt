@@ -144,7 +144,7 @@ by_itself front spoken closing later none = record {
   label = refl;
   session = refl;
   earlier = [];
-  upto = ap (λ (xs : List Spoken). spoken ∷ xs) (bye_last spoken.exchange.outcome);
+  up_to = ap (λ (xs : List Spoken). spoken ∷ xs) (bye_last spoken.exchange.outcome);
   among = refl;
 }
 
@@ -177,7 +177,7 @@ by_earlier front spoken closing later since =
       label = since.label_is;
       session = since.session_is;
       earlier = since.earlier;
-      upto = first_says spoken.label spoken.session front since spoken closing [] refl ∙ ap (λ (xs : List Spoken). since.earlier ++ spoken ∷ xs) (bye_last spoken.exchange.outcome);
+      up_to = first_says spoken.label spoken.session front since spoken closing [] refl ∙ ap (λ (xs : List Spoken). since.earlier ++ spoken ∷ xs) (bye_last spoken.exchange.outcome);
       among = ap (λ (ts : List Turn). since.first ∷ commands_behind since.first ts) join ∙ first_says spoken.label spoken.session front since spoken closing later refl;
     }
 

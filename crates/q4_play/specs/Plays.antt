@@ -89,7 +89,7 @@ stop_end (CutSpoken spoken) = None
 -- ## What stops a play
 
 -- How the input ended: the bytes behind the lines, and whether the source ended. Want of memory may come at any time, but
--- no line that was read goes without its turn.
+-- leaves no line that was read without its turn.
 abbrev pub InputEnds : PlayEnd → List ℕ → Type 0 → Type 0
 InputEnds Ended rest ended = (rest ≡ []) × ended
 InputEnds (Partial count) rest ended = IsOpenLine rest × (length rest ≡ count) × (0 < count) × ended

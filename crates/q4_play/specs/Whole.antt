@@ -73,7 +73,8 @@ pub record AnswersBehind (host : Host) (history : List Entry) (session : ℕ) (f
   pub cut : history ≡ front ++ between ++ exchange.grown ++ later
   pub answers : IsExchange (client_of host session) (front ++ between) patience exchange
 
--- Commands of the session were answered so, each behind the one before it.
+-- Commands of the session were answered so, each behind the one before it. The patience, which goes through all labels, is told
+-- by the turns alone.
 abbrev pub AreAnswered : Host → List Entry → ℕ → List Entry → List Spoken → Type 0
 AreAnswered host history session front [] = Unit {0}
 AreAnswered host history session front (spoken ∷ rest) = (here : AnswersBehind host history session front spoken.exchange) × AreAnswered host history session (front ++ here.between ++ spoken.exchange.grown) rest
@@ -104,7 +105,7 @@ pub record IsInSession (front : List Turn) (spoken : Spoken) (closing : List Ent
   pub label : first.label ≡ spoken.label
   pub session : first.session ≡ spoken.session
   pub earlier : List Spoken
-  pub upto : first ∷ commands_behind first between ≡ earlier ++ spoken ∷ []
+  pub up_to : first ∷ commands_behind first between ≡ earlier ++ spoken ∷ []
   pub among : first ∷ commands_behind first (between ++ later) ≡ earlier ++ spoken ∷ commands_behind spoken later
 
 -- A command of these turns opened this session.

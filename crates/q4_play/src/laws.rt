@@ -10,7 +10,7 @@ ghost use Rattle.q4_session.specs.Sessions.{Around};
 ghost use Rattle.q4_session.specs.Standing.{IsGranted, IsDone};
 ghost use Rattle.q4_play.specs.declared.plays.PlayEnd.{PlayEnd as PlayedEnd};
 ghost use Rattle.q4_play.specs.Turns.{Host, Spoken, Turn, Spoke, AreTurns, client_of, grown_by};
-ghost use Rattle.q4_play.specs.Plays.{Play};
+ghost use Rattle.q4_play.specs.Plays.{CutSpoken, Play};
 ghost use Rattle.q4_play.specs.Whole.{all_turns, HasNone, commands_behind, IsWholeSession, IsInSession, AreOfSessions};
 
 /// A law: a session that an entry of a legal history closed is not open at its end.
@@ -39,7 +39,11 @@ pub fn labels_have_whole_sessions()
 /// grew by while it was answered has the entry of that command, whose reply gives the outcome, and in every history that
 /// goes on from the turns it is settled.
 pub fn granted_commands_are_done()
-    ensures { (host : Host) (before : List HistoryEntry) (seating : List (Perhaps ℕ)) (patience : PatienceState) (turns front back : List Turn) (spoken : Spoken) (closing more : List HistoryEntry)
+    ensures turns { (host : Host) (before : List HistoryEntry) (seating : List (Perhaps ℕ)) (patience : PatienceState) (turns front back : List Turn) (spoken : Spoken) (closing more : List HistoryEntry)
         → AreTurns host before seating patience turns → turns ≡ front ++ Spoke spoken closing ∷ back → IsGranted spoken.exchange.outcome
         → IsDone (client_of host spoken.session) ((before ++ grown_by front) ++ spoken.opening) ((before ++ grown_by turns) ++ more) spoken.exchange }
+    // So is the command whose reply the sink did not take.
+    ensures cut { (host : Host) (old new : Around) (ended : Bool) (how : PlayedEnd) (play : Play host old new (IsTrue ended) how) (spoken : Spoken)
+        → play.lined.stop ≡ CutSpoken spoken → IsGranted spoken.exchange.outcome
+        → IsDone (client_of host spoken.session) ((old.seen ++ grown_by play.lined.turns) ++ spoken.opening) new.seen spoken.exchange }
 {}

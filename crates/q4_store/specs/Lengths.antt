@@ -6,11 +6,12 @@ use Rattle.q4_record.specs.declared.head.Head.{Head}
 use Rattle.q4_record.specs.declared.head.Head.TheVariants.{Insert, End, Mark, Next}
 use Rattle.q4_record.specs.Record.{Record}
 
--- what a record tells before its row: 9 bytes, and 10 more where a row was forwarded, with its source, mode and number there
+-- what tells where a forwarded row came from: its source, mode and number there
 abbrev pub origin_size : Option Origin → ℕ
 origin_size None = 0
 origin_size (Some origin) = 10
 
+-- what a record tells before its row: its kind and a number, and an origin, or a mark's source
 abbrev pub head_size : Head → ℕ
 head_size (Insert number origin) = 9 + origin_size origin
 head_size (End number) = 9

@@ -1,4 +1,5 @@
-//! What holds of two sides whatever a call does. These functions do nothing: their contracts are the laws.
+//! What holds of two sides, of contents and of lengths whatever a call does. These functions do nothing: their contracts
+//! are the laws.
 
 ghost use Rattle.std.specs.Prelude.{◌≡◌, ◌≤◌, ◌⊎◌, ℕ, List, [], Option, length};
 ghost use Rattle.q4_value.specs.declared.column.Column.{Column as Header};
@@ -26,8 +27,8 @@ pub fn opening_laws()
     ensures apart { (columns : List Header) (sides : Sides) (table : TableState) (g : ℕ) (why : Fault) → AreColumns columns → Reads columns sides table g → OpenFails columns sides why
         → (why ≡ fault.Disk) ⊎ (why ≡ fault.Memory) }
     // They have one fault at most.
-    ensures one_fault { (columns : List Header) (sides : Sides) (why way : Fault) → AreColumns columns → OpenFails columns sides why → OpenFails columns sides way
-        → (why ≡ way) ⊎ IsOutside why ⊎ IsOutside way }
+    ensures one_fault { (columns : List Header) (sides : Sides) (why other : Fault) → AreColumns columns → OpenFails columns sides why → OpenFails columns sides other
+        → (why ≡ other) ⊎ IsOutside why ⊎ IsOutside other }
 {}
 
 /// Laws of what a store stands for.
@@ -40,8 +41,8 @@ pub fn content_laws()
     // A commit leaves the table.
     ensures committed { (content : Content) → table_of (all_committed content) ≡ table_of content }
     // What is read again is what is committed and a prefix of what waits, with the store's generation.
-    ensures reopened { (content : Content) (generation h : ℕ) (sides : Sides) (table : TableState) → IsPrefix content generation sides → Reads content.committed.columns sides table h
-        → (count : ℕ) × (count ≤ length content.pending) × (table ≡ table_with content count) × (h ≡ generation) }
+    ensures reopened { (content : Content) (generation again : ℕ) (sides : Sides) (table : TableState) → IsPrefix content generation sides → Reads content.committed.columns sides table again
+        → (count : ℕ) × (count ≤ length content.pending) × (table ≡ table_with content count) × (again ≡ generation) }
     // A change leaves what was there before it.
     ensures earlier { (content : Content) (change : Change) (count : ℕ) → count ≤ length content.pending → table_with (with_change content change) count ≡ table_with content count }
     // Where nothing waits, what opening gives is all that is committed.

@@ -59,7 +59,7 @@ pub(crate) fn blank<D: Disk>(disk: &mut D, side: Side) -> Result<(), DiskFailed>
 }
 
 /// Makes a side ready for a table: closes its gate and writes zeros behind it, by at most four device calls. The gate is
-/// known to be closed from then on, and where it fails only behind the calls that close it.
+/// known to be closed from then on; where it fails that is so if it was known before or the calls that close it were made.
 pub(crate) fn prepare<D: Disk>(disk: &mut D, side: Side, known: &mut bool) -> Result<(), DiskFailed>
     requires { IsTrue (D.told disk.old).honest → Within (D.told disk.old).images (IsReady known.old side) }
     ensures honest { (D.told disk.new).honest ≡ (D.told disk.old).honest }

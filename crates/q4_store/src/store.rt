@@ -220,6 +220,8 @@ impl<D: Disk> Store<D> {
             → OnOk result (IsOver (self.old.end + waiting_size content.pending) (change_cost content.pending size) live → ⊥) }
         ensures kept { OnErr result (self.new ≡ self.old) }
         ensures reserved { OnOk result (self.old.rows ≤ live → self.new ≡ record self.old { reserved = size }) }
+        // For fewer rows than there are nothing is reserved.
+        ensures few { OnOk result (live < self.old.rows → self.new ≡ record self.old { reserved = 0 }) }
         ensures same { self.new ≡ record self.old { reserved = self.new.reserved } }
         ensures stands { (content : Content) → StandsFor D.told self.old content → StandsFor D.told self.new content }
     {
