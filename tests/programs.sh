@@ -6,10 +6,10 @@
 #   tests/programs.sh            the programs in crates/*/out
 #   tests/programs.sh FOLDER     the programs in that folder
 #
-# tests/programs/NAME.sh has the cases of the program NAME, with what docs/PROTOCOL.md and docs/FORMATS.md promise as
-# the answers; tests/programs/cases.sh is what all of them call. A case prints one line where it fails. A case whose
-# tool is missing is skipped, and says so. The last line is `N passed, M failed`; the status is 0 where one passed and
-# none failed.
+# tests/programs/q4.sh has the cases of q4, with what docs/PROTOCOL.md and docs/FORMATS.md promise as the answers, and
+# tests/programs/start.sh those of run.sh. tests/programs/cases.sh is what they call; a further program gets a file of
+# its own. A case prints one line where it fails. A case whose tool is missing is skipped, and says so. The last line is
+# `N passed, M failed`; the status is 0 where one passed and none failed.
 set -eu
 export LC_ALL=C
 top=$(dirname "$(dirname "$(readlink -f "${BASH_SOURCE[0]}")")")
@@ -23,14 +23,10 @@ chmod 711 "$room"
 # shellcheck source=tests/programs/cases.sh
 . "$top/tests/programs/cases.sh"
 
-for cases in "$top"/tests/programs/*.sh; do
-    name=$(basename "$cases" .sh)
-    [[ $name != cases ]] || continue
-    if take_program "${built:-$top/crates/$name/out}/$name"; then
-        # shellcheck source=tests/programs/q4.sh
-        . "$cases"
-    fi
-done
+# shellcheck source=tests/programs/q4.sh
+. "$top/tests/programs/q4.sh"
+# shellcheck source=tests/programs/start.sh
+. "$top/tests/programs/start.sh"
 
 echo "$passed passed, $failed failed"
 ((passed > 0 && failed == 0))

@@ -36,12 +36,13 @@ has() {
     command -v "$1" >/dev/null
 }
 
-# Takes a copy of the program for the cases that follow, so that a build beside them changes nothing.
+# Takes a copy of this program for the cases that follow, so that a build beside them changes nothing.
 take_program() {
-    program=$room/bin/$(basename "$1")
+    local from=${built:-$top/crates/$1/out}/$1
+    program=$room/bin/$1
     mkdir -p "$room/bin"
-    if ! cp "$1" "$program" 2>/dev/null; then
-        fail "$(basename "$1")" "a built program" "no file $1"
+    if ! cp "$from" "$program" 2>/dev/null; then
+        fail "$1" 'a built program' "no file $from"
         return 1
     fi
     chmod 755 "$program"

@@ -1,6 +1,7 @@
 # The cases of q4. The answers are what docs/PROTOCOL.md and docs/FORMATS.md say, never what the program wrote.
 # shellcheck shell=bash
 
+take_program q4 || return 0
 : "${top:?}" "${room:?}" "${program:?}" "${here:?}" "${input:?}" "${answer:?}" "${output:?}" "${complaints:?}"
 
 # A refusal that needs nothing but its line.
@@ -850,6 +851,28 @@ leaves_folder() {
 }
 leaves_folder run ''
 leaves_folder play '7 '
+
+# Little memory: the least in which the program starts, and half a megabyte more. A line of 4,000,000 bytes has no room.
+in_little_memory() {
+    (ulimit -v "$memory" && exec "$@")
+}
+for ((memory = 2000; memory < 20000; memory += 500)); do
+    ! (in_little_memory "$program" run) </dev/null >"$output" 2>&1 || break
+done
+if ((memory < 20000)); then
+    memory=$((memory + 500))
+    text 4000000 >"$input"
+    given '' end
+    wanted 'err|90|out of memory'
+    via=in_little_memory ends 'run, no memory for a line' 9 run
+    given '1 end'
+    text 4000000 >>"$input"
+    given '' '1 end'
+    wanted '1 err|31|not in owner mode' '0 err|90|out of memory'
+    via=in_little_memory ends 'play, no memory for a line' 9 play
+else
+    skip 'no memory for a line' 'the program starts in no little memory'
+fi
 
 # ---- Conversations: a client that waits for each reply is served.
 
