@@ -174,7 +174,8 @@ speaks() {
         pass
     else
         said=$(tail -n 1 <<<"$said")
-        fail "$1" "'${said%, came *}'" "'${said##*, came }'"
+        said=${said#wanted }
+        fail "$1" "${said%, came *}" "${said##*, came }"
     fi
     begin
 }
@@ -206,7 +207,7 @@ line_of() {
     sed -n "$1{p;q}" "$2" | brief
 }
 
-# A line, at most its first 80 bytes, with `|` for a TAB.
+# A text as one line, at most its first 80 bytes, with `|` for a TAB.
 brief() {
-    head -c 80 | tr '\t\n' '| ' | sed 's/ $//'
+    head -c 80 | tr '\t\n' '| ' | cat -v | sed 's/ $//'
 }

@@ -13,7 +13,7 @@ words_refused() {
     definitions 'no toml'
     given quit
     wanted words
-    ends "words '$*'" 2 "$@"
+    ends "words '$(brief <<<"$*")'" 2 "$@"
 }
 
 words_refused
@@ -873,6 +873,23 @@ if ((memory < 20000)); then
 else
     skip 'no memory for a line' 'the program starts in no little memory'
 fi
+
+# opens CASE WORD: beside what the system loads a program from, one file is opened, tables.toml.
+opens() {
+    local came=0
+    if ! has strace || ! strace -qq -o "$room/trace" true 2>/dev/null; then
+        skip "$1" 'there is no strace'
+        return 0
+    fi
+    table t 'n int'
+    wanted tables.toml
+    (cd "$here" && exec strace -qq -f -e trace=open,openat,openat2,creat -o "$room/trace" "$program" "$2") \
+        <"$input" >"$complaints" 2>&1 || came=$?
+    sed -n 's/^[^"]*"\([^"]*\)".*/\1/p' "$room/trace" | grep -v -e '^/etc/ld\.' -e '/lib[^/]*\.so' >"$output" || true
+    judge "$1" 0 "$came"
+}
+opens 'the files that a run opens' run
+opens 'the files that a play opens' play
 
 # ---- Conversations: a client that waits for each reply is served.
 
