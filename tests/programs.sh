@@ -15,7 +15,7 @@ export LC_ALL=C
 top=$(dirname "$(dirname "$(readlink -f "${BASH_SOURCE[0]}")")")
 built=${1:-}
 
-# Everything happens in a folder of this run, which others may go through but not list.
+# Everything happens in a folder of this run. A program that runs as nobody may go through it.
 room=$(mktemp -d)
 trap 'rm -rf "$room"' EXIT
 chmod 711 "$room"

@@ -14,8 +14,13 @@ answer=$room/wanted
 output=$room/output
 complaints=$room/complaints
 
-# How long one run may take, in seconds.
+# How long one run may take, in seconds, and about how long all of them: what is left then gets a second each.
 limit=60
+whole=240
+allowed() {
+    local left=$((whole - SECONDS))
+    echo $((left < 1 ? 1 : left < limit ? left : limit))
+}
 
 pass() {
     passed=$((passed + 1))
@@ -88,7 +93,7 @@ wanted() {
 ends() {
     local case=$1 status=$2 came=0
     shift 2
-    (cd "$here" && "$via" timeout "$limit" "$program" "$@") <"$input" >"$output" 2>"$complaints" || came=$?
+    (cd "$here" && "$via" timeout "$(allowed)" "$program" "$@") <"$input" >"$output" 2>"$complaints" || came=$?
     judge "$case" "$status" "$came"
 }
 via='exec'
@@ -98,6 +103,8 @@ from_folder() { "$@" </; }
 to_closed() { "$@" >&-; }
 to_full() { "$@" >/dev/full; }
 without_environment() { env -i "$@"; }
+at_home() { HOME=$room "$@"; }
+as_nobody() { setpriv --reuid=65534 --regid=65534 --clear-groups "$@"; }
 
 # The output is a pipe that nobody reads any more, or whose reader goes after three lines.
 to_nobody() {
@@ -125,7 +132,7 @@ transcript() {
 # `hangs_up` ends the input and judges the case.
 talk() {
     mkfifo "$room/sent" "$room/told"
-    (cd "$here" && exec timeout "$limit" "$program" "$@") <"$room/sent" >"$room/told" 2>"$complaints" &
+    (cd "$here" && exec timeout "$(allowed)" "$program" "$@") <"$room/sent" >"$room/told" 2>"$complaints" &
     exec 5>"$room/sent" 6<"$room/told"
     rm "$room/sent" "$room/told"
     unheard=
@@ -170,10 +177,10 @@ speaks() {
     local said=
     if ! has python3; then
         skip "$1" 'there is no python3'
-    elif said=$(cd "$here" && timeout "$limit" python3 "$top/tests/programs/talk.py" "$2" "$program" "${@:3}" 2>&1); then
+    elif said=$(cd "$here" && timeout "$(allowed)" python3 "$top/tests/programs/talk.py" "$2" "$program" "${@:3}" 2>&1); then
         pass
     else
-        said=$(tail -n 1 <<<"$said")
+        said=$(tail -n 1 <<<"${said:-wanted an end, came none in time}")
         said=${said#wanted }
         fail "$1" "${said%, came *}" "${said##*, came }"
     fi
