@@ -53,6 +53,7 @@ pub appended : {D : Type 0} (told : D → Told) (store : Stored D) (content : Co
 appended told store content change records ends rows reserved s stands valid unowned records_are rows_are long copy =
     let more = table_more content change s.stand in
     record {
+      columns = s.columns;
       valid = subst IsValidTable (sym more) valid;
       unowned = subst (λ (t : TableState). All (λ (r : StoredRow). r.owner ≡ None) t.rows) (sym more) unowned;
       stand = stand_push (at_batches content.committed) content.pending change s.stand (subst (λ (replay : Replay). Stands replay change) (sym (replays_lead content.committed content.pending s.stand)) stands);
@@ -84,7 +85,7 @@ gone_later k r rs differs more =
 there_later : (k : ℕ) (r : StoredRow) (rs : List StoredRow) → r.number ≢ k → IsThere (r ∷ rs) k → IsThere rs k
 there_later k r rs differs there = subst (λ (b : Bool). IsSome (cond b (Some r) (row_in rs k))) (ne_eqb r.number k differs) there
 
-gone : (low next k : ℕ) (rows : List StoredRow) → RiseBelow low next (numbers_of rows) → IsThere rows k → length (without_row k rows) + 1 ≡ length rows
+pub gone : (low next k : ℕ) (rows : List StoredRow) → RiseBelow low next (numbers_of rows) → IsThere rows k → length (without_row k rows) + 1 ≡ length rows
 gone low next k [] rise there = absurd (cc there)
 gone low next k (r ∷ rs) rise there =
     ⊎_elim (gone_here low next k r rs rise) (λ differs. gone_later k r rs differs (gone r.number next k rs rise.2 (there_later k r rs differs there))) (cases_eq r.number k)

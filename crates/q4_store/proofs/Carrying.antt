@@ -129,6 +129,7 @@ pub kept_stands : {D : Type 0} (told : D → Told) (store : Stored D) (content :
     → StandsFor told (record store { records = records; ends = ends; reserved = reserved }) content
 kept_stands told store content records ends reserved s same_records same_ends =
     let here : StandsFor told (record store { reserved = reserved }) content = record {
+      columns = s.columns;
       valid = s.valid;
       unowned = s.unowned;
       stand = s.stand;

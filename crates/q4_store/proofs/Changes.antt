@@ -1,5 +1,5 @@
 -- What the table of a store's content is after one change more.
-use Rattle.std.proofs.Common.{◌≡◌, ◌≤◌, ℕ, List, [], ◌∷◌, Option, length, ◌∙◌, ap, subst, arith}
+use Rattle.std.proofs.Common.{◌≡◌, ◌≤◌, ◌+◌, ◌⊎◌, inl, inr, ℕ, List, [], ◌∷◌, Option, length, ◌∙◌, ap, subst, arith}
 use Rattle.std.proofs.lemmas.List.{take-append-le}
 use Rattle.std.proofs.lemmas.List.Sums.{fold_push}
 use Rattle.q4_value.specs.declared.row.Value.{Value}
@@ -13,7 +13,7 @@ use Rattle.q4_record.specs.Replay.{replayed, replays, at_batches, table_after}
 use Rattle.q4_disk.specs.Told.{Sides}
 use Rattle.q4_store.specs.Reading.{Reads}
 use Rattle.q4_store.proofs.Quiet.{reads_once}
-use Rattle.q4_store.specs.Content.{Content, row_added, row_ended, table_of, table_with, with_change, IsPrefix}
+use Rattle.q4_store.specs.Content.{Content, row_added, row_ended, table_of, table_with, with_change, IsPrefix, IsPrefixOrNew}
 
 more : (content : Content) (change : Record) → table_of (with_change content change) ≡ table_after (table_of content) change.head change.row
 more content change = ap (λ (replay : Replay). replay.table) (fold_push replayed (at_batches content.committed) content.pending change)
@@ -35,6 +35,13 @@ pub read_again : (content : Content) (generation h : ℕ) (sides : Sides) (table
 read_again content generation h sides table prefix reads =
     let same = reads_once content.committed.columns sides table (table_with content prefix.count) h generation reads prefix.reads in
     (prefix.count, prefix.within, same.0, same.1)
+
+pub read_either : (content : Content) (generation h : ℕ) (sides : Sides) (table : TableState) → IsPrefixOrNew content generation sides → Reads content.committed.columns sides table h
+    → ((count : ℕ) × (count ≤ length content.pending) × (table ≡ table_with content count) × (h ≡ generation)) ⊎ ((table ≡ table_of content) × (h ≡ generation + 1))
+read_either content generation h sides table (inl prefix) reads = inl (read_again content generation h sides table prefix reads)
+read_either content generation h sides table (inr new) reads =
+    let same = reads_once content.committed.columns sides table (table_of content) h (generation + 1) reads new in
+    inr (same.0, same.1)
 
 pub earlier_stays : (content : Content) (change : Record) (count : ℕ) → count ≤ length content.pending → table_with (with_change content change) count ≡ table_with content count
 earlier_stays content change count within = ap (λ (changes : List Record). (replays (at_batches content.committed) changes).table) (take-append-le count content.pending (change ∷ []) within)

@@ -1,10 +1,12 @@
 -- What a commit makes of a store.
 use Rattle.std.proofs.Common.{◌≡◌, ◌≢◌, ℕ, ◌+◌, ◌*◌, ◌≤◌, ◌<◌, inl, inr, length-append, Bool, true, false, List, [], ◌∷◌, ◌++◌, None, Some, length, ◌↔◌, IsTrue, refl, sym, ◌∙◌, ap, subst, arith, append_assoc}
 use Rattle.q4_table.specs.TableState.{TableState}
+use Rattle.q4_value.specs.Names.{AreColumns}
 use Rattle.q4_value.specs.Spelling.{row_bytes}
 use Rattle.q4_record.specs.declared.head.Head.{Head}
 use Rattle.q4_record.specs.declared.head.Head.TheVariants.{Insert, End, Mark, Next}
 use Rattle.q4_record.specs.Record.{Record, head_bytes, records_bytes}
+use Rattle.q4_record.specs.Replay.{at_batches}
 use Rattle.q4_record.specs.Side.{side_limit, base_at, generation_of, Side as IsSide}
 use Rattle.q4_disk.specs.declared.disk.Side.{Side}
 use Rattle.q4_disk.specs.declared.disk.Side.TheVariants.{A, B}
@@ -19,7 +21,7 @@ use Rattle.q4_store.specs.Copied.{HasCopied}
 use Rattle.q4_store.specs.Content.{Content, changed, table_of, all_committed, IsPrefix}
 use Rattle.q4_store.specs.Store.{Stored, StandsFor, IsSettled, IsHeld, pending_length, length_of}
 use Rattle.std.specs.Int.{w32, to_be_bytes}
-use Rattle.q4_store.proofs.Lifting.{Holds, side_holds, reads_current, front, p, ends, may_read, may_hold, settled_then}
+use Rattle.q4_store.proofs.Lifting.{Holds, side_holds, reads_current, front, p, ends, may_read, may_hold, settled_then, columns_stay}
 
 -- a record has bytes
 pub some_bytes : (head : Head) (more : List ℕ) → head_bytes head ++ more ≢ []
@@ -88,6 +90,7 @@ pub stands_open : {D : Type 0} (told : D → Told) (store : Stored D) (content :
     → (IsTrue (told new).honest → (t : ℕ) (c : Sides) → t ≤ (told new).moment → (told new).images c → (told new).since t c) → (IsTrue (told store.disk).honest → LeavesOnly (told store.disk) (told new) (λ c. IsPrefix content store.generation c × Holds store.side store.generation c))
     → (IsTrue (told store.disk).honest → OtherStays store.side (told store.disk) (told new)) → store.failed ≡ false → (IsTrue (told store.disk).honest → on (other store.side) (told new).bytes ≡ on (other store.side) (told store.disk).bytes) → StandsFor told (record store { disk = new; failed = true }) content
 stands_open told store content new s same counts run stays whole there = record {
+  columns = s.columns;
   valid = s.valid;
   unowned = s.unowned;
   stand = s.stand;
@@ -119,6 +122,7 @@ pub stands_done : {D : Type 0} (told : D → Told) (store : Stored D) (content :
     → (IsTrue (told store.disk).honest → IsSettled (told new) store.side (table_of content) store.generation end) → (IsTrue (told store.disk).honest → OtherStays store.side (told store.disk) (told new)) → store.failed ≡ false → records ≡ [] → end ≡ length_of store → (IsTrue (told store.disk).honest → on (other store.side) (told new).bytes ≡ on (other store.side) (told store.disk).bytes)
     → StandsFor told (record store { disk = new; end = end; records = records; reserved = 0; failed = false }) (all_committed content)
 stands_done told store content new end records s same settled stays whole none end_is there = record {
+  columns = subst AreColumns (sym (columns_stay (at_batches content.committed) content.pending)) s.columns;
   valid = s.valid;
   unowned = s.unowned;
   stand = tt;

@@ -68,6 +68,7 @@ module _ {D : Type 0} (told : D → Told) (store : Stored D) (content : Content)
       → (IsTrue old.honest → OtherStays (other store.side) old (told new)) → (IsTrue old.honest → Within (told new).images (IsReady known (other store.side)))
       → ForSome copy (CopyStands told (record store { disk = new; known = known; copy = copy; ends = ends }) (table_of content)) → StandsFor told (record store { disk = new; known = known; copy = copy; ends = ends }) content
   stands_beside known copy ends read reads stays ready copied = record {
+    columns = s.columns;
     valid = s.valid;
     unowned = s.unowned;
     stand = s.stand;

@@ -4,6 +4,7 @@ use Rattle.std.specs.List.{All, sum_by, flat_map}
 use Rattle.std.specs.Prelude.{◌==◌}
 use Rattle.std.proofs.lemmas.List.{take_all, drop_all, drop_at}
 use Rattle.std.proofs.lemmas.List.Concat.{flat_map-append, flat_map-cons}
+use Rattle.q4_value.specs.Names.{AreColumns}
 use Rattle.q4_value.specs.declared.column.Column.{Column}
 use Rattle.q4_table.specs.declared.marks.Mark as marks
 use Rattle.q4_table.specs.TableState.{TableState}
@@ -78,6 +79,17 @@ all_some columns [] cursor table = rest_some (map row_record (rows_from cursor t
     rest_some (r ∷ rows) ms = refl
 all_some columns (r ∷ rs) cursor table = refl
 
+-- a base that leads to a table is read as it, whatever generation its header has
+pub base_read : (table : TableState) (records : List Record) (generation : ℕ) → IsFinished table records → 1 ≤ generation → generation ≤ generation_limit
+    → length (side_bytes generation (schema_bytes table.columns ++ records_bytes records) (0 ∷ [])) ≤ side_limit → HasRoom table (base_at + length (schema_bytes table.columns ++ records_bytes records) + 1)
+    → IsSide table.columns (side_bytes generation (schema_bytes table.columns ++ records_bytes records) (0 ∷ [])) table generation (base_at + length (schema_bytes table.columns ++ records_bytes records) + 1)
+base_read table records generation f positive limit few room =
+    let base = schema_bytes table.columns ++ records_bytes records in
+    let is_base : IsBase table.columns base table = record { records = records; base_is = refl; stand = f.stand; replay_is = f.leads } in
+    let len : base_at + length base + 0 + 1 ≡ base_at + length base + 1 = omega arith in
+    subst (λ (n : ℕ). IsSide table.columns (side_bytes generation base (0 ∷ [])) table generation n) len
+    (base_side table.columns base table generation [] 0 [] is_base positive limit tt (omega arith) few (subst (λ (n : ℕ). HasRoom table n) (sym len) room))
+
 module _ {D : Type 0} (told : D → Told) (store : Stored D) (content : Content) (s : StandsFor told store content) (progress : Progress) (is : store.copy ≡ Some progress) (room : length_of store + 32 * store.rows ≤ side_limit) where
   abbrev pub table : TableState
   table = table_of content
@@ -106,9 +118,6 @@ module _ {D : Type 0} (told : D → Told) (store : Stored D) (content : Content)
   pub rest_at : progress.at + length rest ≡ base_at + length base
   rest_at = omega (arith, copy.at, ap length base_is, length-append (copy_bytes table.columns copy.written) rest)
 
-  is_base : IsBase table.columns base table
-  is_base = let f = copy_finished table progress.cursor (copy.written ++ copy.waiting) s.valid s.unowned copy.copied in record { records = all; base_is = refl; stand = f.stand; replay_is = f.leads }
-
   -- it is no longer than the current side
   pub no_longer : base_at + length base + 1 ≤ length_of store
   no_longer = omega (arith, base_length, copy.fits)
@@ -117,9 +126,7 @@ module _ {D : Type 0} (told : D → Told) (store : Stored D) (content : Content)
   finished_side =
       let long : length (side_bytes (store.generation + 1) base (0 ∷ [])) ≡ base_at + length base + 1 = omega (arith, length-append base (0 ∷ [])) in
       let limit = copy.limit in
-      let side = base_side table.columns base table (store.generation + 1) [] 0 [] is_base (omega arith) (omega (arith, limit)) tt (omega arith) (omega (arith, long, no_longer, room)) (omega (arith, no_longer, room, s.rows)) in
-      let len : base_at + length base + 0 + 1 ≡ base_at + length base + 1 = omega arith in
-      subst (λ (n : ℕ). IsSide table.columns (side_bytes (store.generation + 1) base (0 ∷ [])) table (store.generation + 1) n) len side
+      base_read table all (store.generation + 1) (copy_finished table progress.cursor (copy.written ++ copy.waiting) s.valid s.unowned copy.copied) (omega arith) (omega (arith, limit)) (omega (arith, long, no_longer, room)) (omega (arith, no_longer, room, s.rows))
 
   -- with an open gate, what is read of the copy's side stands for the table
   pub finish_stands : (last header : List ℕ) → last ≡ rest ++ 0 ∷ [] → header ≡ header_bytes (store.generation + 1) (length base) → IsTrue (told store.disk).honest
@@ -217,6 +224,7 @@ module _ {D : Type 0} (told : D → Told) (store : Stored D) (content : Content)
   pub stands_finished : (new : D) (records ends : List ℕ) → (told new).honest ≡ old.honest → records ≡ [] → (IsTrue old.honest → IsSettled (told new) (other store.side) the_table (store.generation + 1) end) → (IsTrue old.honest → OtherStays (other store.side) old (told new))
       → StandsFor told (record { disk = new; side = other store.side; end = end; generation = store.generation + 1; records = records; rows = store.rows; reserved = 0; known = false; failed = false; copy = None; ends = ends }) (all_committed content)
   stands_finished new records ends same none settled stays = record {
+    columns = subst AreColumns (sym columns_are) s.columns;
     valid = s.valid;
     unowned = s.unowned;
     stand = tt;

@@ -20,10 +20,12 @@ pub mod Runs
 pub mod Parting
 pub mod CopyRecords
 pub mod Weights
+pub mod Owners
 pub mod Carrying
 pub mod CopyStands
 pub mod Taking
 pub mod Pieces
 pub mod Finishing
+pub mod Excess
 pub mod MarksPut
 pub mod Gathering

@@ -48,6 +48,7 @@ module _ {D : Type 0} (told : D → Told) (store : Stored D) (columns : List Col
   opened_stands are no_copy ready =
       let sound = sound_side columns bytes table store.generation store.end (are_columns columns are) side in
       record {
+        columns = subst AreColumns (sym sound.columns_are) are;
         valid = sound.valid;
         unowned = sound.unowned;
         stand = tt;

@@ -12,6 +12,13 @@ use Rattle.q4_record.specs.Schema.{schema_bytes}
 use Rattle.q4_record.specs.Side.{base_at}
 use Rattle.q4_record.specs.Written.{row_record, mark_record, next_record}
 
+-- a row and a table with the owners left out: what a side says of them
+abbrev pub without_owner : StoredRow → StoredRow
+without_owner r = record { number = r.number; row = r.row; owner = None }
+
+abbrev pub without_owners : TableState → TableState
+without_owners table = record table { rows = map without_owner table.rows }
+
 -- the rows with numbers below a cursor, and those from it on
 abbrev pub is_below : ℕ → StoredRow → Bool
 is_below cursor r = nat_lt r.number cursor

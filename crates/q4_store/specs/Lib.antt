@@ -9,3 +9,4 @@ pub mod Waiting
 pub mod Opening
 pub mod Looking
 pub mod Device
+pub mod CopyCalls

@@ -2,7 +2,8 @@
 use Rattle.std.specs.Prelude.{◌≡◌, ◌==◌, ◌<◌, ◌≤◌, ◌+◌, ◌-◌, ◌*◌, ℕ, Bool, true, false, List, [], ◌∷◌, ◌++◌, Option, None, Some, All, IsTrue, length, nat_lt, sum_by, if◌then◌else◌}
 use Rattle.std.specs.Option.{ForSome}
 use Rattle.q4_value.specs.declared.row.Value.{Value}
-use Rattle.q4_value.specs.Row.{Fits}
+use Rattle.q4_value.specs.Names.{AreColumns}
+use Rattle.q4_value.specs.Row.{Fits, row_size}
 use Rattle.q4_table.specs.declared.adding.Check.TheVariants as check
 use Rattle.q4_table.specs.declared.origin.Origin.{Origin}
 use Rattle.q4_table.specs.Adding.{IsOrigin, check_of}
@@ -14,16 +15,16 @@ use Rattle.q4_record.specs.Replay.{at_batches, AllStand}
 use Rattle.q4_record.specs.Schema.{schema_bytes}
 use Rattle.q4_record.specs.Side.{side_limit, generation_limit, base_at, Side as IsSide}
 use Rattle.q4_disk.specs.declared.disk.Side.{Side}
-use Rattle.q4_disk.specs.Told.{Told}
+use Rattle.q4_disk.specs.Told.{Sides, Told}
 use Rattle.q4_disk.specs.Images.{on, other, size, Within}
 use Rattle.q4_store.specs.declared.fault.AppendFault.{AppendFault}
 use Rattle.q4_store.specs.declared.fault.AppendFault.TheVariants as fault
 use Rattle.q4_store.specs.declared.copying.Progress.{Progress}
 use Rattle.q4_store.specs.Copied.{IsCopied, rows_from, row_cost, rest_records, piece_bytes, copy_length, compact_size, copy_bytes, HasCopied}
 use Rattle.q4_store.specs.Reading.{IsBehind}
-use Rattle.q4_store.specs.Parts.{IsReady}
+use Rattle.q4_store.specs.Parts.{IsReady, opened}
 use Rattle.q4_store.specs.Looking.{header_bytes}
-use Rattle.q4_store.specs.Content.{Content, table_of, row_ended, IsPrefix}
+use Rattle.q4_store.specs.Content.{Content, table_of, row_ended, IsPrefix, IsPrefixOrNew}
 
 pub record Stored (D : Type 0) : Type 0 where
   pub disk : D
@@ -94,6 +95,7 @@ pub record CopyStands {D : Type 0} (told : D → Told) (store : Stored D) (table
 
 -- The store stands for this content.
 pub record StandsFor {D : Type 0} (told : D → Told) (store : Stored D) (content : Content) : Type 0 where
+  pub columns : AreColumns content.committed.columns
   pub valid : IsValidTable (table_of content)
   pub unowned : All (λ r. r.owner ≡ None) (table_of content).rows
   pub stand : AllStand (at_batches content.committed) content.pending
@@ -110,15 +112,34 @@ pub record StandsFor {D : Type 0} (told : D → Told) (store : Stored D) (conten
   pub long : compact_size (table_of content) ≤ length_of store
   pub copy : ForSome store.copy (CopyStands told store (table_of content))
 
+-- what is left of a copy, with a closed gate
+abbrev pub last_bytes : {D : Type 0} → Stored D → Progress → TableState → List ℕ
+last_bytes store progress table = piece_bytes (progress.at == base_at) table.columns store.ends (rest_records progress.cursor table) ++ 0 ∷ []
+
 -- What is left of the copy, with a closed gate, and the header of its side.
 pub record IsRest {D : Type 0} (store : Stored D) (progress : Progress) (content : Content) (last header : List ℕ) : Type 0 where
-  pub last_is : last ≡ piece_bytes (progress.at == base_at) (table_of content).columns store.ends (rest_records progress.cursor (table_of content)) ++ 0 ∷ []
+  pub last_is : last ≡ last_bytes store progress (table_of content)
   pub header_is : header ≡ header_bytes (store.generation + 1) (progress.at + length last - (base_at + 1))
 
 -- How long the side will be once the copy is finished: what it has and what waits, the schema where it has none yet, and the rest.
 abbrev pub finished_length : {D : Type 0} → Stored D → Progress → TableState → ℕ
 finished_length store progress table =
     progress.at + length (if progress.at == base_at then schema_bytes table.columns else []) + length store.ends + sum_by row_cost (rows_from progress.cursor table.rows) + 10 * length table.marks + 10
+
+-- A copy that is under way will be, once it is finished, longer by so many bytes than the least that a side of the table takes.
+abbrev pub IsLongerBy : {D : Type 0} → Stored D → TableState → ℕ → Type 0
+IsLongerBy store table extra = ForSome store.copy (λ progress. finished_length store progress table ≡ compact_size table + extra)
+
+-- what the end of a row adds to that: where the copy has the row, its record and that of its end
+abbrev pub end_extra : Option Progress → ℕ → List Value → ℕ
+end_extra None number row = 0
+end_extra (Some progress) number row = if nat_lt number progress.cursor then 18 + row_size row else 0
+
+-- What a crash may leave behind a finish that is unsure: opening gives the table with a prefix of the changes or the whole
+-- table with a generation greater by one, and the new side, its gate taken as open, is that whole table.
+pub record IsUnsure (content : Content) (generation : ℕ) (side : Side) (len : ℕ) (sides : Sides) : Type 0 where
+  pub reads : IsPrefixOrNew content generation sides
+  pub whole : IsSide content.committed.columns (opened (on side sides)) (table_of content) (generation + 1) len
 
 -- What always holds: the place of an honest disk's closing gate is there, and there is room for the end of each row.
 pub record IsKept {D : Type 0} (told : D → Told) (store : Stored D) : Type 0 where

@@ -1,11 +1,11 @@
 // How far a copy has come, and the ends that wait for it.
 
-ghost use Rattle.std.specs.Prelude.{◌≡◌, ◌==◌, ◌+◌, ◌++◌, ◌≤◌, [], ◌∷◌, IfOk, OnOk, length, map, vec_capacity, if◌then◌else◌};
+ghost use Rattle.std.specs.Prelude.{◌≡◌, ◌==◌, ◌+◌, ◌++◌, ◌≤◌, ◌↔◌, true, [], ◌∷◌, IfOk, OnOk, length, map, vec_capacity, if◌then◌else◌};
 ghost use Rattle.q4_record.specs.Record.{records_bytes};
 ghost use Rattle.q4_record.specs.Schema.{IsSchema, schema_bytes};
 ghost use Rattle.q4_record.specs.Side.{base_at};
 ghost use Rattle.q4_record.specs.Written.{row_record, mark_record};
-ghost use Rattle.q4_store.specs.Copied.{cursor_after, taken, piece_bytes, rest_records};
+ghost use Rattle.q4_store.specs.Copied.{cursor_after, rows_from, taken, piece_bytes, rest_records};
 ghost use Rattle.q4_store.specs.Looking.{header_bytes};
 ghost use Rattle.q4_store.specs.Store.{ends_with};
 
@@ -87,6 +87,14 @@ fn put_rows(table: &Table, cursor: u64, most: u32, out: &mut Bytes) -> Result<u6
         left -= 1;
     }
     Ok(cursor)
+}
+
+/// Whether no row is left from a cursor on.
+pub(crate) fn none_left(table: &Table, cursor: u64) -> bool
+    ensures { (result ≡ true) ↔ (rows_from cursor table.now.rows ≡ []) }
+{
+    tables_are_valid(table);
+    table.live_from(cursor).is_none()
 }
 
 /// Gathers what is left of a copy: the schema where it has none yet, the ends that wait, the rows from the cursor on, the

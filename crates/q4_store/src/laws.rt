@@ -1,21 +1,27 @@
 //! What holds of two sides, of contents and of lengths whatever a call does. These functions do nothing: their contracts
 //! are the laws.
 
-ghost use Rattle.std.specs.Prelude.{◌≡◌, ◌≤◌, ◌⊎◌, ℕ, List, [], Option, length};
+ghost use Rattle.std.specs.Prelude.{◌≡◌, ◌≤◌, ◌<◌, ◌+◌, ◌++◌, ◌⊎◌, ℕ, List, [], ◌∷◌, Option, None, All, length, map};
 ghost use Rattle.q4_value.specs.declared.column.Column.{Column as Header};
 ghost use Rattle.q4_value.specs.declared.row.Value.{Value as Field};
 ghost use Rattle.q4_value.specs.Names.{AreColumns};
 ghost use Rattle.q4_table.specs.declared.origin.Origin.{Origin as RowOrigin};
 ghost use Rattle.q4_table.specs.TableState.{TableState};
-ghost use Rattle.q4_table.specs.Rows.{without_row};
+ghost use Rattle.q4_table.specs.Rows.{without_row, IsThere};
 ghost use Rattle.q4_table.specs.Adding.{add_row};
+ghost use Rattle.q4_table.specs.Valid.{IsValidTable};
 ghost use Rattle.q4_record.specs.Record.{Record as Change, record_bytes, records_bytes};
+ghost use Rattle.q4_record.specs.Schema.{schema_bytes};
+ghost use Rattle.q4_record.specs.Side.{Side, HasRoom, base_at, side_limit, generation_limit};
+ghost use Rattle.q4_record.specs.Written.{row_record, side_bytes};
 ghost use Rattle.q4_disk.specs.Told.{Sides};
 ghost use Rattle.q4_store.specs.declared.fault.OpenFault.{OpenFault as Fault};
 ghost use Rattle.q4_store.specs.declared.fault.OpenFault.TheVariants as fault;
 ghost use Rattle.q4_store.specs.Reading.{Reads};
 ghost use Rattle.q4_store.specs.Opening.{OpenFails, IsOutside};
-ghost use Rattle.q4_store.specs.Content.{Content, row_added, row_ended, table_of, table_with, with_change, all_committed, IsPrefix};
+ghost use Rattle.q4_store.specs.Content.{Content, row_added, row_ended, table_of, table_with, with_change, all_committed, IsPrefix, IsPrefixOrNew};
+ghost use Rattle.q4_store.specs.Copied.{IsCopied, IsFinished, without_owners, cursor_after, taken, rest_records};
+ghost use Rattle.q4_store.specs.Looking.{header_bytes};
 ghost use Rattle.q4_store.specs.Lengths.{change_size, waiting_size, change_cost};
 ghost use Rattle.q4_store.specs.Store.{pending_length, batch_size};
 
@@ -43,6 +49,9 @@ pub fn content_laws()
     // What is read again is what is committed and a prefix of what waits, with the store's generation.
     ensures reopened { (content : Content) (generation again : ℕ) (sides : Sides) (table : TableState) → IsPrefix content generation sides → Reads content.committed.columns sides table again
         → (count : ℕ) × (count ≤ length content.pending) × (table ≡ table_with content count) × (again ≡ generation) }
+    // Behind a finish that is unsure it may be all of it too, with the next generation.
+    ensures reopened_unsure { (content : Content) (generation again : ℕ) (sides : Sides) (table : TableState) → IsPrefixOrNew content generation sides → Reads content.committed.columns sides table again
+        → ((count : ℕ) × (count ≤ length content.pending) × (table ≡ table_with content count) × (again ≡ generation)) ⊎ ((table ≡ table_of content) × (again ≡ generation + 1)) }
     // A change leaves what was there before it.
     ensures earlier { (content : Content) (change : Change) (count : ℕ) → count ≤ length content.pending → table_with (with_change content change) count ≡ table_with content count }
     // Where nothing waits, what opening gives is all that is committed.
@@ -55,4 +64,27 @@ pub fn length_laws()
     ensures change { (change : Change) → length (record_bytes change) ≡ change_size change }
     ensures waiting { (changes : List Change) → pending_length (records_bytes changes) ≡ waiting_size changes }
     ensures cost { (changes : List Change) (size : ℕ) → batch_size (records_bytes changes) size ≡ change_cost changes size }
+{}
+
+/// Laws of copies, whatever pieces and changes made them: the records that a copy has, with those that wait for it, lead
+/// to the rows below its cursor.
+pub fn copy_laws()
+    ensures begun { (table : TableState) → IsValidTable table → IsCopied table 1 [] }
+    // A row that is added, and the end of one from the cursor on, are nothing to it. An end below the cursor is one record more.
+    ensures added { (table : TableState) (cursor : ℕ) (copied : List Change) (row : List Field) (origin : Option RowOrigin) → IsCopied table cursor copied → IsCopied (add_row table row origin) cursor copied }
+    ensures ended_above { (table : TableState) (cursor number : ℕ) (copied : List Change) → cursor ≤ number → IsCopied table cursor copied → IsCopied (record table { rows = without_row number table.rows }) cursor copied }
+    ensures ended_below { (table : TableState) (cursor number : ℕ) (copied : List Change) → IsValidTable table → number < cursor → IsThere table.rows number → IsCopied table cursor copied
+        → IsCopied (record table { rows = without_row number table.rows }) cursor (copied ++ row_ended number ∷ []) }
+    // The next rows, at most so many.
+    ensures piece { (table : TableState) (cursor most : ℕ) (copied : List Change) → IsValidTable table → All (λ r. r.owner ≡ None) table.rows → IsCopied table cursor copied
+        → IsCopied table (cursor_after cursor (taken most cursor table)) (copied ++ map row_record (taken most cursor table)) }
+    // With what is left it is a base of the table, which is read as the table, whatever generation its header has.
+    ensures finished { (table : TableState) (cursor : ℕ) (copied : List Change) → IsValidTable table → All (λ r. r.owner ≡ None) table.rows → IsCopied table cursor copied
+        → IsFinished table (copied ++ rest_records cursor table) }
+    ensures header { (generation : ℕ) (base behind : List ℕ) → side_bytes generation base behind ≡ 1 ∷ (header_bytes generation (length base) ++ (base ++ behind)) }
+    ensures read { (table : TableState) (copied : List Change) (generation : ℕ) → IsFinished table copied → 1 ≤ generation → generation ≤ generation_limit
+        → length (side_bytes generation (schema_bytes table.columns ++ records_bytes copied) (0 ∷ [])) ≤ side_limit → HasRoom table (base_at + length (schema_bytes table.columns ++ records_bytes copied) + 1)
+        → Side table.columns (side_bytes generation (schema_bytes table.columns ++ records_bytes copied) (0 ∷ [])) table generation (base_at + length (schema_bytes table.columns ++ records_bytes copied) + 1) }
+    // It does not see an owner.
+    ensures owners { (table : TableState) (cursor : ℕ) → rest_records cursor (without_owners table) ≡ rest_records cursor table }
 {}

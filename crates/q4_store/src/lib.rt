@@ -16,7 +16,7 @@ mod spelling;
 mod store;
 
 pub use fault::{AppendFault, CopyFault, OpenFault};
-pub use laws::{content_laws, length_laws, opening_laws};
+pub use laws::{content_laws, copy_laws, length_laws, opening_laws};
 pub use limit::room;
 pub use store::Store;
 

@@ -1,29 +1,30 @@
 ghost use Rattle.std.specs.Prelude.{◌≡◌, ◌≢◌, ◌+◌, ◌-◌, ◌*◌, ◌≤◌, ◌<◌, ◌^◌, ◌++◌, ◌↔◌, ℕ, Bool, true, false, None, Some, List, [], ◌∷◌, All, IsTrue, IsSome, IsOk, IsErr, IfOk, IfErr, OnOk, OnErr, length, vec_capacity};
-ghost use Rattle.std.specs.Option.{option_map};
+ghost use Rattle.std.specs.Option.{ForSome, option_map};
 ghost use Rattle.q4_value.specs.Names.{AreColumns};
+ghost use Rattle.q4_value.specs.declared.row.Value.{Value as Field};
 ghost use Rattle.q4_value.specs.Row.{IsValue};
+ghost use Rattle.q4_table.specs.Rows.{values_in};
 ghost use Rattle.q4_record.specs.Record.{record_bytes};
-ghost use Rattle.q4_record.specs.Side.{side_limit, base_at, Side as IsSide};
+ghost use Rattle.q4_record.specs.Side.{side_limit, base_at};
 ghost use Rattle.q4_disk.specs.Told.{Sides, Told};
 ghost use Rattle.q4_disk.specs.Images.{on, other, written, Within};
 ghost use Rattle.q4_disk.specs.Time.{LeavesOnly};
 ghost use Rattle.q4_disk.specs.Calls.{bump, CountsFault};
 ghost use Rattle.q4_store.specs.Reading.{Reads, ReadsAs};
-ghost use Rattle.q4_store.specs.Parts.{IsShut, opened};
+ghost use Rattle.q4_store.specs.Parts.{IsShut};
 ghost use Rattle.q4_store.specs.Looking.{OnlyReads, HasOpen};
 ghost use Rattle.q4_store.specs.Opening.{IsChosen, OpenFails, CountsOpen};
 ghost use Rattle.q4_store.specs.Commit.{sealed};
-ghost use Rattle.q4_store.specs.Device.{Makes, AllMade, BrokeOff, HasOpened, HasStopped, commit_calls, prepare_calls};
+ghost use Rattle.q4_store.specs.Device.{Makes, AllMade, BrokeOff, HasOpened, HasStopped, commit_calls, close_calls, prepare_calls, fill_calls, switch_calls};
+ghost use Rattle.q4_store.specs.CopyCalls.{CountsCopy, is_unsure, piece_calls, last_calls, PieceStops, FinishStops};
 ghost use Rattle.q4_store.specs.Content.{Content, row_added, row_ended, table_of, with_change, all_committed, IsPrefix, IsPrefixOrNew};
-ghost use Rattle.q4_record.specs.Schema.{IsSchema};
-ghost use Rattle.q4_store.specs.Copied.{cursor_after, taken, rows_from};
-ghost use Rattle.q4_store.specs.declared.copying.Progress.{Progress as HowFar};
+ghost use Rattle.q4_store.specs.Copied.{without_owners, cursor_after, taken, rows_from, compact_size};
 ghost use Rattle.q4_store.specs.Lengths.{change_size, waiting_size, change_cost};
-ghost use Rattle.q4_store.specs.Store.{StandsFor, IsRest, finished_length, ends_with, TakesRow, HasRow, IsOver, IsRefused, length_of, cost_of, pending_length, batch_size};
+ghost use Rattle.q4_store.specs.Store.{StandsFor, IsRest, IsUnsure, IsLongerBy, finished_length, end_extra, ends_with, TakesRow, HasRow, IsOver, IsRefused, length_of, cost_of, pending_length, batch_size};
 
 use crate::batch::Batch;
 use crate::committing::commit_batch;
-use crate::copying::{Progress, gather, gather_rest, header_of, put_waiting};
+use crate::copying::{Progress, gather, gather_rest, header_of, none_left, put_waiting};
 use crate::fault::{AppendFault, CopyFault, OpenFault};
 use crate::limit::room;
 use crate::opening::find;
@@ -170,6 +171,8 @@ impl<D: Disk> Store<D> {
         ensures room { result + 32 * self.now.rows ≤ side_limit }
         // Told by the changes that wait.
         ensures content { (content : Content) → StandsFor D.told self.now content → result ≡ self.now.end + waiting_size content.pending }
+        // No side of the table is shorter than a copy that is made at once.
+        ensures least { (content : Content) → StandsFor D.told self.now content → compact_size (table_of content) ≤ result }
     {
         self.end + pending_size(&self.batch)
     }
@@ -255,7 +258,7 @@ impl<D: Disk> Store<D> {
     /// Appends a row that was added, with its number and where it came from. It needs a reserve for its record.
     pub fn append_row(&mut self, number: u64, row: &Row, origin: Option<Origin>)
         requires values { All IsValue row.now }
-        requires reserved { length (record_bytes (row_added number row.now origin)) ≤ self.old.reserved }
+        requires reserved { change_size (row_added number row.now origin) ≤ self.old.reserved }
         ensures stands { (content : Content) → StandsFor D.told self.old content → TakesRow content number row.now origin
             → StandsFor D.told self.new (with_change content (row_added number row.now origin)) }
         ensures change { self.new ≡ record self.old { records = self.old.records ++ record_bytes (row_added number row.now origin); rows = self.old.rows + 1; reserved = 0 } }
@@ -263,6 +266,9 @@ impl<D: Disk> Store<D> {
         // Told by the changes that wait.
         ensures longer { (content : Content) → StandsFor D.told self.old content
             → length_of self.new ≡ length_of self.old + change_cost content.pending (change_size (row_added number row.now origin)) }
+        // A copy that is under way will have it once, as a copy that is made at once.
+        ensures copy { (content : Content) (extra : ℕ) → StandsFor D.told self.old content → TakesRow content number row.now origin
+            → IsLongerBy self.old (table_of content) extra → IsLongerBy self.new (table_of (with_change content (row_added number row.now origin))) extra }
     {
         self.batch.put_row(number, row, origin);
         self.rows += 1;
@@ -279,6 +285,9 @@ impl<D: Disk> Store<D> {
         // Told by the changes that wait.
         ensures longer { (content : Content) → StandsFor D.told self.old content
             → length_of self.new ≡ length_of self.old + change_cost content.pending (change_size (row_ended number)) }
+        // A copy that has the row will be longer by its record and that of its end.
+        ensures copy { (content : Content) (row : List Field) (extra : ℕ) → StandsFor D.told self.old content → values_in (table_of content).rows number ≡ Some row
+            → IsLongerBy self.old (table_of content) extra → IsLongerBy self.new (table_of (with_change content (row_ended number))) (extra + end_extra self.old.copy number row) }
     {
         self.batch.put_end(number);
         put_waiting(&mut self.ends, self.copy, number);
@@ -302,6 +311,9 @@ impl<D: Disk> Store<D> {
         ensures bytes { OnOk result (IsTrue (D.told self.old.disk).honest → self.old.records ≢ []
             → on self.old.side (D.told self.new.disk).bytes ≡ written (written (on self.old.side (D.told self.old.disk).bytes) self.old.end (sealed self.old.records)) (self.old.end - 1) (1 ∷ [])) }
         ensures failed { OnErr result (self.new ≡ record self.old { disk = self.new.disk; failed = true }) }
+        // Nothing else changes: neither the side nor its generation, nor a copy that is under way.
+        ensures kept { self.new ≡ record self.old { disk = self.new.disk; end = self.new.end; records = self.new.records; reserved = self.new.reserved; failed = self.new.failed } }
+        ensures whole { OnOk result (self.new.failed ≡ false) }
         ensures length { length_of self.new ≡ length_of self.old }
         ensures honest { (D.told self.new.disk).honest ≡ (D.told self.old.disk).honest }
         // It fails only where the disk failed in it, or where a commit failed before.
@@ -348,11 +360,16 @@ impl<D: Disk> Store<D> {
             → LeavesOnly (D.told self.old.disk) (D.told self.new.disk) (IsPrefix content self.old.generation) }
         ensures stands { (content : Content) → StandsFor D.told self.old content → StandsFor D.told self.new content }
         ensures begun { OnOk result (self.new ≡ record self.old { disk = self.new.disk; known = true; copy = Some (record { cursor = 1; at = base_at }); ends = [] }) }
+        // It will be no longer than the table takes.
+        ensures length { OnOk result ((content : Content) → StandsFor D.told self.old content → IsLongerBy self.new (table_of content) 0) }
         ensures abandoned { IfErr result (λ fault. (fault ≡ CopyFault.Abandoned) × (self.new ≡ record self.old { disk = self.new.disk; known = self.new.known; ends = [] })) }
         ensures honest { (D.told self.new.disk).honest ≡ (D.told self.old.disk).honest }
         ensures faults { CountsFault result (D.told self.old.disk).faults (D.told self.new.disk).faults }
         ensures device { OnOk result (AllMade D.told (prepare_calls (other self.old.side) self.old.known) self.old.disk self.new.disk) }
         ensures device_err { OnErr result (BrokeOff D.told (prepare_calls (other self.old.side) self.old.known) self.old.disk self.new.disk) }
+        // What was known of the other gate stays known, and it is known where the calls that close it were made.
+        ensures known { self.old.known ≡ true → self.new.known ≡ true }
+        ensures unknown { self.new.known ≡ false → BrokeOff D.told (close_calls (other self.old.side) false) self.old.disk self.new.disk }
     {
         self.ends.truncate(0);
         match prepare(&mut self.disk, other_of(self.side), &mut self.known) {
@@ -372,18 +389,29 @@ impl<D: Disk> Store<D> {
     pub fn compact_piece(&mut self, table: &Table, most: u32) -> Result<bool, CopyFault>
         requires copying { IsSome self.old.copy }
         requires whole { self.old.failed ≡ false }
-        requires content { (content : Content) × StandsFor D.told self.old content × (table_of content ≡ table.now) }
-        requires schema { IsSchema table.now.columns }
+        requires content { (content : Content) × StandsFor D.told self.old content × (table_of content ≡ without_owners table.now) }
         requires most { 1 ≤ most }
         ensures any_moment { (content : Content) → StandsFor D.told self.old content → IsTrue (D.told self.old.disk).honest
             → LeavesOnly (D.told self.old.disk) (D.told self.new.disk) (IsPrefix content self.old.generation) }
         // Whether it fails or not the store stands for the same content, and where it succeeds the copy has come so far.
-        ensures stands { (content : Content) → StandsFor D.told self.old content → table_of content ≡ table.now → StandsFor D.told self.new content }
+        ensures stands { (content : Content) → StandsFor D.told self.old content → table_of content ≡ without_owners table.now → StandsFor D.told self.new content }
         ensures copied { OnOk result (option_map (λ p. p.cursor) self.new.copy ≡ option_map (λ p. cursor_after p.cursor (taken most p.cursor table.now)) self.old.copy) }
         // Whether no row is left then.
-        ensures done { IfOk result (λ done. (progress : HowFar) → self.old.copy ≡ Some progress → (done ≡ true) ↔ (rows_from (cursor_after progress.cursor (taken most progress.cursor table.now)) table.now.rows ≡ [])) }
+        ensures done { IfOk result (λ done. ForSome self.old.copy (λ progress.
+            (done ≡ true) ↔ (rows_from (cursor_after progress.cursor (taken most progress.cursor table.now)) table.now.rows ≡ []))) }
+        // It makes the copy neither longer nor shorter than it would be.
+        ensures length { (content : Content) (extra : ℕ) → StandsFor D.told self.old content → table_of content ≡ without_owners table.now
+            → IsLongerBy self.old (table_of content) extra → IsLongerBy self.new (table_of content) extra }
+        // Where it fails the copy is dropped, and the current side goes on.
         ensures dropped { OnErr result (self.new.copy ≡ None) }
         ensures kept { self.new ≡ record self.old { disk = self.new.disk; copy = self.new.copy; ends = [] } }
+        // It is abandoned exactly where the disk failed, and never unsure.
+        ensures fault { IfErr result (λ fault. fault ≢ CopyFault.Unsure) }
+        ensures faults { IfErr result (λ fault. CountsCopy fault (D.told self.old.disk).faults (D.told self.new.disk).faults) }
+        ensures calm { OnOk result ((D.told self.new.disk).faults ≡ (D.told self.old.disk).faults) }
+        // Its device call.
+        ensures device { OnOk result (ForSome self.old.copy (λ progress. AllMade D.told (piece_calls self.old progress most table.now) self.old.disk self.new.disk)) }
+        ensures device_err { IfErr result (λ fault. ForSome self.old.copy (λ progress. PieceStops D.told (piece_calls self.old progress most table.now) fault self.old.disk self.new.disk)) }
         ensures honest { (D.told self.new.disk).honest ≡ (D.told self.old.disk).honest }
     {
         let Some(progress) = self.copy else {
@@ -403,25 +431,38 @@ impl<D: Disk> Store<D> {
             cursor: piece.cursor,
             at: progress.at + more.len() as u64,
         });
-        Ok(table.live_from(piece.cursor).is_none())
+        Ok(none_left(table, piece.cursor))
     }
 
     /// Copies what is left, opens the copy's gate, and goes on with its side. It gives the new generation.
     pub fn compact_finish(&mut self, table: &Table) -> Result<u64, CopyFault>
         requires copying { IsSome self.old.copy }
         requires whole { self.old.failed ≡ false }
-        requires content { (content : Content) × StandsFor D.told self.old content × (table_of content ≡ table.now) }
-        requires schema { IsSchema table.now.columns }
-        ensures any_moment { (content : Content) → StandsFor D.told self.old content → table_of content ≡ table.now → IsTrue (D.told self.old.disk).honest
+        requires content { (content : Content) × StandsFor D.told self.old content × (table_of content ≡ without_owners table.now) }
+        ensures any_moment { (content : Content) → StandsFor D.told self.old content → table_of content ≡ without_owners table.now → IsTrue (D.told self.old.disk).honest
             → LeavesOnly (D.told self.old.disk) (D.told self.new.disk) (IsPrefixOrNew content self.old.generation) }
         // The new side stands for the table as it is, and nothing waits.
-        ensures stands { OnOk result ((content : Content) → StandsFor D.told self.old content → table_of content ≡ table.now → StandsFor D.told self.new (all_committed content)) }
-        ensures generation { IfOk result (λ generation. (generation ≡ self.old.generation + 1) × (self.new.generation ≡ generation) × (self.new.side ≡ other self.old.side) × (self.new.records ≡ []) × (self.new.copy ≡ None)) }
+        ensures stands { OnOk result ((content : Content) → StandsFor D.told self.old content → table_of content ≡ without_owners table.now → StandsFor D.told self.new (all_committed content)) }
+        ensures generation { IfOk result (λ generation. generation ≡ self.old.generation + 1) }
+        ensures finished { OnOk result (ForSome self.old.copy (λ progress. self.new ≡ record self.old { disk = self.new.disk; side = other self.old.side; end = finished_length self.old progress table.now; generation = self.old.generation + 1;
+            records = []; reserved = 0; known = false; copy = None; ends = [] })) }
+        // It is no longer than before, and as long as the copy would be.
         ensures length { OnOk result (length_of self.new ≤ length_of self.old) }
-        ensures exact { OnOk result ((progress : HowFar) → self.old.copy ≡ Some progress → length_of self.new ≡ finished_length self.old progress table.now) }
-        ensures abandoned { IfErr result (λ fault. fault ≢ CopyFault.Unsure → (self.new.failed ≡ false) × ((content : Content) → StandsFor D.told self.old content → table_of content ≡ table.now → StandsFor D.told self.new content)) }
-        ensures unsure { IfErr result (λ fault. fault ≡ CopyFault.Unsure → (self.new.failed ≡ true) × ((content : Content) → StandsFor D.told self.old content → table_of content ≡ table.now → IsTrue (D.told self.old.disk).honest
-            → (len : ℕ) × Within (D.told self.new.disk).images (λ c. IsSide (table_of content).columns (opened (on (other self.old.side) c)) (table_of content) (self.old.generation + 1) len))) }
+        ensures exact { OnOk result ((content : Content) (extra : ℕ) → StandsFor D.told self.old content → table_of content ≡ without_owners table.now → IsLongerBy self.old (table_of content) extra
+            → length_of self.new ≡ compact_size (table_of content) + extra) }
+        // Where it fails the copy is dropped. The store is failed where it is unsure, and else the current side goes on.
+        ensures dropped { IfErr result (λ fault. self.new ≡ record self.old { disk = self.new.disk; failed = is_unsure fault; copy = None; ends = [] }) }
+        ensures goes_on { IfErr result (λ fault. fault ≢ CopyFault.Unsure → (content : Content) → StandsFor D.told self.old content → table_of content ≡ without_owners table.now → StandsFor D.told self.new content) }
+        // What a crash leaves where it is unsure.
+        ensures unsure { IfErr result (λ fault. fault ≡ CopyFault.Unsure → (content : Content) → StandsFor D.told self.old content → table_of content ≡ without_owners table.now → IsTrue (D.told self.old.disk).honest
+            → ForSome self.old.copy (λ progress. Within (D.told self.new.disk).images (IsUnsure content self.old.generation (other self.old.side) (finished_length self.old progress table.now)))) }
+        // It is abandoned or unsure exactly where the disk failed.
+        ensures faults { IfErr result (λ fault. CountsCopy fault (D.told self.old.disk).faults (D.told self.new.disk).faults) }
+        ensures calm { OnOk result ((D.told self.new.disk).faults ≡ (D.told self.old.disk).faults) }
+        // Its device calls, in their order.
+        ensures device { OnOk result (ForSome self.old.copy (λ progress. AllMade D.told (last_calls self.old progress table.now ++ switch_calls (other self.old.side)) self.old.disk self.new.disk)) }
+        ensures device_err { IfErr result (λ fault. ForSome self.old.copy (λ progress. FinishStops D.told (last_calls self.old progress table.now) (switch_calls (other self.old.side)) fault self.old.disk self.new.disk)) }
+        ensures honest { (D.told self.new.disk).honest ≡ (D.told self.old.disk).honest }
     {
         let Some(progress) = self.copy else {
             unreachable!()
@@ -450,10 +491,15 @@ impl<D: Disk> Store<D> {
         // No longer than before.
         ensures length { OnOk result (length_of self.new ≤ length_of self.old) }
         // A copy that is abandoned leaves what the store stands for.
-        ensures abandoned { IfErr result (λ fault. fault ≢ CopyFault.Unsure → (self.new.failed ≡ false) × ((content : Content) → StandsFor D.told self.old content → IsRest self.old progress content last.now header.now → StandsFor D.told self.new content)) }
+        ensures dropped { IfErr result (λ fault. self.new ≡ record self.old { disk = self.new.disk; failed = is_unsure fault; copy = None; ends = [] }) }
+        ensures goes_on { IfErr result (λ fault. fault ≢ CopyFault.Unsure → (content : Content) → StandsFor D.told self.old content → IsRest self.old progress content last.now header.now → StandsFor D.told self.new content) }
         // Where it is unsure the new side is whole but for its gate in each image.
-        ensures unsure { IfErr result (λ fault. fault ≡ CopyFault.Unsure → (self.new.failed ≡ true) × ((content : Content) → StandsFor D.told self.old content → IsRest self.old progress content last.now header.now → IsTrue (D.told self.old.disk).honest
-            → Within (D.told self.new.disk).images (λ c. IsSide (table_of content).columns (opened (on (other self.old.side) c)) (table_of content) (self.old.generation + 1) (progress.at + length last.now)))) }
+        ensures unsure { IfErr result (λ fault. fault ≡ CopyFault.Unsure → (content : Content) → StandsFor D.told self.old content → IsRest self.old progress content last.now header.now → IsTrue (D.told self.old.disk).honest
+            → Within (D.told self.new.disk).images (IsUnsure content self.old.generation (other self.old.side) (progress.at + length last.now))) }
+        ensures faults { IfErr result (λ fault. CountsCopy fault (D.told self.old.disk).faults (D.told self.new.disk).faults) }
+        ensures calm { OnOk result ((D.told self.new.disk).faults ≡ (D.told self.old.disk).faults) }
+        ensures device { OnOk result (AllMade D.told (fill_calls (other self.old.side) progress.at last.now header.now ++ switch_calls (other self.old.side)) self.old.disk self.new.disk) }
+        ensures device_err { IfErr result (λ fault. FinishStops D.told (fill_calls (other self.old.side) progress.at last.now header.now) (switch_calls (other self.old.side)) fault self.old.disk self.new.disk) }
         ensures honest { (D.told self.new.disk).honest ≡ (D.told self.old.disk).honest }
     {
         let side = other_of(self.side);

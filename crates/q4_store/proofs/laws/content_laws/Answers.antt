@@ -1,5 +1,5 @@
 use Rattle.std.proofs.Common.{refl}
-use Rattle.q4_store.proofs.Changes.{added_is, ended_is, read_again, earlier_stays, none_waits}
+use Rattle.q4_store.proofs.Changes.{added_is, ended_is, read_again, read_either, earlier_stays, none_waits}
 use Rattle.q4_store.proofs.laws.content_laws.Goals as goal
 
 pub returns-clause-added : goal.returns-clause-added
@@ -19,3 +19,6 @@ returns-clause-reopened c = read_again
 
 pub returns-clause-earlier : goal.returns-clause-earlier
 returns-clause-earlier c = earlier_stays
+
+pub returns-clause-reopened_unsure : goal.returns-clause-reopened_unsure
+returns-clause-reopened_unsure c = read_either

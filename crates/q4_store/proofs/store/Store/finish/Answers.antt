@@ -4,11 +4,14 @@ use Rattle.q4_table.specs.TableState.{TableState}
 use Rattle.q4_record.specs.Side.{side_limit, Side as IsSide}
 use Rattle.q4_disk.specs.Images.{on, other, size, Within}
 use Rattle.q4_disk.specs.Time.{LeavesOnly, OtherStays}
-use Rattle.q4_disk.proofs.Moments.{other_then}
+use Rattle.q4_disk.specs.declared.disk.Side.{Side}
+use Rattle.q4_disk.proofs.Moments.{left_now, other_then}
 use Rattle.q4_store.specs.Parts.{IsShut, IsFilled, opened}
 use Rattle.q4_store.specs.Reading.{Reads, ReadsAs}
 use Rattle.q4_store.specs.Content.{Content, IsPrefix, IsPrefixOrNew, table_of, all_committed}
-use Rattle.q4_store.specs.Store.{Stored, StandsFor, IsRest, IsSettled, length_of, pending_length}
+use Rattle.q4_store.specs.Store.{Stored, StandsFor, IsRest, IsUnsure, IsSettled, length_of, pending_length}
+use Rattle.q4_store.specs.Device.{DeviceCall, AllMade, BrokeOff, fill_calls, switch_calls}
+use Rattle.q4_store.proofs.Runs.{made_then}
 use Rattle.q4_store.proofs.Opened.{end_within}
 use Rattle.q4_store.proofs.CopyStands.{none_copied}
 use Rattle.q4_store.proofs.Pieces.{copy_place, copy_late, copy_shut, extended_stands}
@@ -107,14 +110,12 @@ returns-in_default-clause-any_moment g c content s r =
     moments_of g a content c.fill.new.disk (λ h. fill_moments g.D.Disk.told _ content (here g a content s) c.args.progress (copying g a) (room g a) (whole g a) c.args.last.now c.args.header.now (rest_here g a content r) (g.D.Disk.told c.fill.new.disk) h
     (fill_run g (goal.at.returns-in_default-clause-any_moment g c).After-fill content.committed.columns h (shut g a content s h)))
 
-pub returns-in_default-clause-abandoned : goal.returns-in_default-clause-abandoned
-returns-in_default-clause-abandoned g c is =
-    let a = (goal.at.returns-in_default-clause-abandoned g c).After-truncate in
-    let b = (goal.at.returns-in_default-clause-abandoned g c).After-fill in (
-      whole g a,
-      λ content s r. extended_stands g.D.Disk.told _ content (here g a content s) c.args.progress (copying g a) c.fill.new.disk None c.truncate.new.self.items (whole g a) c.fill.ensures.honest (g.met.D.Disk.counts_now c.fill.new.disk) (g.met.D.Disk.reads_image c.fill.new.disk)
-      (fill_run g b) (fill_shut g b) (fill_other g b) (none_copied _ None refl),
-    )
+pub returns-in_default-clause-goes_on : goal.returns-in_default-clause-goes_on
+returns-in_default-clause-goes_on g c is content s r =
+    let a = (goal.at.returns-in_default-clause-goes_on g c).After-truncate in
+    let b = (goal.at.returns-in_default-clause-goes_on g c).After-fill in
+    extended_stands g.D.Disk.told _ content (here g a content s) c.args.progress (copying g a) c.fill.new.disk None c.truncate.new.self.items (whole g a) c.fill.ensures.honest (g.met.D.Disk.counts_now c.fill.new.disk) (g.met.D.Disk.reads_image c.fill.new.disk)
+    (fill_run g b) (fill_shut g b) (fill_other g b) (none_copied _ None refl)
 
 pub returns-in_default-switch-clause-any_moment : goal.returns-in_default-switch-clause-any_moment
 returns-in_default-switch-clause-any_moment g c content s r =
@@ -165,18 +166,58 @@ returns-clause-stands g c content s r =
     (λ h. other_then (fill_other g (goal.at.returns-clause-stands g c).After-fill h) (subst (λ side. OtherStays side (told c.fill.new.disk) (told c.switch.new.disk)) c.other_of-side.ensures (c.switch.ensures.other (c.fill.ensures.honest ∙ h)))))
 
 pub returns-in_default-switch-clause-unsure : goal.returns-in_default-switch-clause-unsure
-returns-in_default-switch-clause-unsure g c is = (
-  refl,
-  λ content s r h.
-      let a = (goal.at.returns-in_default-switch-clause-unsure g c).After-truncate in
-      let told = g.D.Disk.told in
-      let inside_honest = subst (λ (store : Stored g.row.D.Denot). IsTrue (told store.disk).honest) (sym c.self.view_is) h in
-      let f = filled g (goal.at.returns-in_default-switch-clause-unsure g c).In-Ok content s r inside_honest in
-      let f_here = subst (λ side. IsFilled (told c.fill.new.disk) side (table_of content).columns (table_of content) (c.self.inside.generation + 1) (c.args.progress.at + length c.args.last.now)) (sym c.other_of-side.ensures) f in
-      let all = c.switch.ensures.whole (table_of content).columns (table_of content) (c.self.inside.generation + 1) (c.args.progress.at + length c.args.last.now) (c.fill.ensures.honest ∙ inside_honest) f_here in
-      subst (λ (store : Stored g.row.D.Denot). Within (told c.switch.new.disk).images (λ d. IsSide (table_of content).columns (opened (on (other store.side) d)) (table_of content) (store.generation + 1) (c.args.progress.at + length c.args.last.now))) c.self.view_is
-      (subst (λ side. Within (told c.switch.new.disk).images (λ d. IsSide (table_of content).columns (opened (on side d)) (table_of content) (c.self.inside.generation + 1) (c.args.progress.at + length c.args.last.now))) c.other_of-side.ensures all),
-)
+returns-in_default-switch-clause-unsure g c is content s r h =
+    let a = (goal.at.returns-in_default-switch-clause-unsure g c).After-truncate in
+    let told = g.D.Disk.told in
+    let end = c.args.progress.at + length c.args.last.now in
+    let inside_honest = subst (λ (store : Stored g.row.D.Denot). IsTrue (told store.disk).honest) (sym c.self.view_is) h in
+    let then_honest = c.switch.ensures.honest ∙ c.fill.ensures.honest ∙ inside_honest in
+    let f = filled g (goal.at.returns-in_default-switch-clause-unsure g c).In-Ok content s r inside_honest in
+    let f_here = subst (λ side. IsFilled (told c.fill.new.disk) side (table_of content).columns (table_of content) (c.self.inside.generation + 1) end) (sym c.other_of-side.ensures) f in
+    let all = subst (λ side. Within (told c.switch.new.disk).images (λ d. IsSide (table_of content).columns (opened (on side d)) (table_of content) (c.self.inside.generation + 1) end)) c.other_of-side.ensures (c.switch.ensures.whole (table_of content).columns (table_of content) (c.self.inside.generation + 1) end (c.fill.ensures.honest ∙ inside_honest) f_here) in
+    let columns = columns_are told _ content (here g a content s) c.args.progress (copying g a) (room g a) (whole g a) c.args.last.now c.args.header.now (rest_here g a content r) in
+    let whole_there = subst (λ cs. Within (told c.switch.new.disk).images (λ d. IsSide cs (opened (on (other c.self.inside.side) d)) (table_of content) (c.self.inside.generation + 1) end)) columns all in
+    let run = switch_run g (goal.at.returns-in_default-switch-clause-unsure g c).After-switch content s r inside_honest in
+    subst (λ (store : Stored g.row.D.Denot). Within (told c.switch.new.disk).images (IsUnsure content store.generation (other store.side) end)) c.self.view_is
+    (λ d left. record {
+      reads = left_now (told c.self.inside.disk) (told c.switch.new.disk) (IsPrefixOrNew content c.self.inside.generation) (g.met.D.Disk.counts_now c.switch.new.disk then_honest) run d left;
+      whole = whole_there d left;
+    })
+
+module _ (g : given.Over) where
+  -- its calls, by the store as it was given
+  calls_made : (c : goal.After-truncate g) (calls : Side → List DeviceCall) (old new : g.row.D.Denot) → AllMade g.D.Disk.told (calls c.other_of-side.result) old new → AllMade g.D.Disk.told (calls (other c.args.self.now.side)) old new
+  calls_made c calls old new made = subst (λ side. AllMade g.D.Disk.told (calls side) old new) (c.other_of-side.ensures ∙ ap (λ (store : Stored g.row.D.Denot). other store.side) c.self.view_is) made
+
+  calls_broke : (c : goal.After-truncate g) (calls : Side → List DeviceCall) (old new : g.row.D.Denot) → BrokeOff g.D.Disk.told (calls c.other_of-side.result) old new → BrokeOff g.D.Disk.told (calls (other c.args.self.now.side)) old new
+  calls_broke c calls old new broke = subst (λ side. BrokeOff g.D.Disk.told (calls side) old new) (c.other_of-side.ensures ∙ ap (λ (store : Stored g.row.D.Denot). other store.side) c.self.view_is) broke
+
+  same_disk : (c : goal.After-truncate g) → c.self.inside.disk ≡ c.args.self.now.disk
+  same_disk c = ap (λ (store : Stored g.row.D.Denot). store.disk) c.self.view_is
+
+pub returns-in_default-clause-device_err : goal.returns-in_default-clause-device_err
+returns-in_default-clause-device_err g c =
+    let a = (goal.at.returns-in_default-clause-device_err g c).After-truncate in
+    subst (λ (old : g.row.D.Denot). BrokeOff g.D.Disk.told (fill_calls (other c.args.self.now.side) c.args.progress.at c.args.last.now c.args.header.now) old c.fill.new.disk) (same_disk g a)
+    (calls_broke g a (λ side. fill_calls side c.args.progress.at c.args.last.now c.args.header.now) c.self.inside.disk c.fill.new.disk c.in_default.ensures.device)
+
+pub returns-in_default-switch-clause-device_err : goal.returns-in_default-switch-clause-device_err
+returns-in_default-switch-clause-device_err g c =
+    let a = (goal.at.returns-in_default-switch-clause-device_err g c).After-truncate in (
+      c.fill.new.disk,
+      subst (λ (old : g.row.D.Denot). AllMade g.D.Disk.told (fill_calls (other c.args.self.now.side) c.args.progress.at c.args.last.now c.args.header.now) old c.fill.new.disk) (same_disk g a)
+      (calls_made g a (λ side. fill_calls side c.args.progress.at c.args.last.now c.args.header.now) c.self.inside.disk c.fill.new.disk c.in-Ok.ensures.device),
+      calls_broke g a switch_calls c.fill.new.disk c.switch.new.disk c.in_default-switch.ensures.device,
+    )
+
+pub returns-clause-device : goal.returns-clause-device
+returns-clause-device g c =
+    let a = (goal.at.returns-clause-device g c).After-truncate in
+    let fill = fill_calls (other c.args.self.now.side) c.args.progress.at c.args.last.now c.args.header.now in
+    made_then g.D.Disk.told fill (switch_calls (other c.args.self.now.side)) c.args.self.now.disk c.fill.new.disk c.switch.new.disk
+    (subst (λ (old : g.row.D.Denot). AllMade g.D.Disk.told fill old c.fill.new.disk) (same_disk g a)
+    (calls_made g a (λ side. fill_calls side c.args.progress.at c.args.last.now c.args.header.now) c.self.inside.disk c.fill.new.disk c.in-Ok.ensures.device))
+    (calls_made g a switch_calls c.fill.new.disk c.switch.new.disk c.in-Ok-switch.ensures.device)
 
 pub invariant_of-self-2 : goal.invariant_of-self-2
 invariant_of-self-2 g c =
