@@ -163,7 +163,8 @@ impl Pieces for Slow {
         if self.interrupted() {
             return Err(io::ErrorKind::Interrupted.into());
         }
-        let rest = self.bytes.get(at as usize..).unwrap_or(&[]);
+        let start = self.bytes.len().min(at as usize);
+        let rest = &self.bytes[start..];
         let count = rest.len().min(into.len()).min(2);
         into[..count].copy_from_slice(&rest[..count]);
         Ok(count)
@@ -173,7 +174,8 @@ impl Pieces for Slow {
         if self.interrupted() {
             return Err(io::ErrorKind::Interrupted.into());
         }
-        let rest = self.bytes.get_mut(at as usize..).unwrap_or(&mut []);
+        let start = self.bytes.len().min(at as usize);
+        let rest = &mut self.bytes[start..];
         let count = rest.len().min(new.len()).min(2);
         rest[..count].copy_from_slice(&new[..count]);
         Ok(count)
