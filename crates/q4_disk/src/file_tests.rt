@@ -195,10 +195,19 @@ fn follows_short_reads_and_writes_through(rt: HostRuntime) -> Result<(), Fail> {
     assert_eq!(rt; read_full(&slow, 4, &mut into)?, 3);
     assert_eq!(rt; into, [5, 6, 7, 5, 6]);
     write_full(&mut slow, 1, &[21, 22, 23, 24, 25])?;
-    assert_eq!(rt; slow.bytes.as_slice(), [1, 21, 22, 23, 24, 25, 7].as_slice());
+    assert_eq!(rt;
+        slow.bytes.as_slice(),
+        [1, 21, 22, 23, 24, 25, 7].as_slice()
+    );
     // it takes no byte behind its end
     let full = write_full(&mut slow, 5, &[31, 32, 33]).err();
-    assert_eq!(rt; full.map(|fault| fault.kind()), Some(io::ErrorKind::WriteZero));
-    assert_eq!(rt; slow.bytes.as_slice(), [1, 21, 22, 23, 24, 31, 32].as_slice());
+    assert_eq!(rt;
+        full.map(|fault| fault.kind()),
+        Some(io::ErrorKind::WriteZero)
+    );
+    assert_eq!(rt;
+        slow.bytes.as_slice(),
+        [1, 21, 22, 23, 24, 31, 32].as_slice()
+    );
     Ok(())
 }

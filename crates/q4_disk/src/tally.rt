@@ -49,9 +49,10 @@ impl Tally {
 
     pub fn count_write(&mut self, side: Side, at: u64, count: u64)
         ensures { self.new ≡ record self.old {
-            last = Some (DeviceCall.Write side at count);
-            calls = bump self.old.calls;
-            writes = bump self.old.writes } }
+          last = Some (DeviceCall.Write side at count);
+          calls = bump self.old.calls;
+          writes = bump self.old.writes;
+        } }
     {
         self.last = Some(DeviceCall::Write { side, at, count });
         self.calls = self.calls.saturating_add(1);
@@ -60,9 +61,10 @@ impl Tally {
 
     pub fn count_sync(&mut self, side: Side)
         ensures { self.new ≡ record self.old {
-            last = Some (DeviceCall.Sync side);
-            calls = bump self.old.calls;
-            syncs = bump self.old.syncs } }
+          last = Some (DeviceCall.Sync side);
+          calls = bump self.old.calls;
+          syncs = bump self.old.syncs;
+        } }
     {
         self.last = Some(DeviceCall::Sync { side });
         self.calls = self.calls.saturating_add(1);
@@ -82,8 +84,9 @@ impl Tally {
     /// raises `refused`.
     pub fn count_refused(&mut self) -> DiskFailed
         ensures counted { self.new ≡ record self.old {
-            faults = bump self.old.faults;
-            refused = bump self.old.refused } }
+          faults = bump self.old.faults;
+          refused = bump self.old.refused;
+        } }
         ensures later { self.old.faults ≤ self.new.faults }
     {
         self.refused = self.refused.saturating_add(1);

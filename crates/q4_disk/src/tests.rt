@@ -129,14 +129,24 @@ fn fails_the_listed_calls(rt: HostRuntime) -> Result<(), Fail> {
     assert_eq!(rt; counts(disk.inner()), [9, 3, 2, 5]);
     // the write and the cut that failed have begun
     assert_eq!(rt;
-        wrong_pick(rt.alloc(), disk.inner(), Side::A, &[&[], &[3, 2], &[], &[1, 1]])?,
+        wrong_pick(
+            rt.alloc(),
+            disk.inner(),
+            Side::A,
+            &[&[], &[3, 2], &[], &[1, 1]]
+        )?,
         None
     );
     // each disk counts for itself
     let mut other = maker.make(rt.alloc(), "hot")?;
     assert_eq!(rt; first_wrong(&mut other, &FAILING[..7]), None);
     assert_eq!(rt;
-        wrong_pick(rt.alloc(), other.inner(), Side::A, &[&[9, 2], &[3, 2], &[3, 2], &[1, 2]])?,
+        wrong_pick(
+            rt.alloc(),
+            other.inner(),
+            Side::A,
+            &[&[9, 2], &[3, 2], &[3, 2], &[1, 2]]
+        )?,
         None
     );
     Ok(())
