@@ -4,3 +4,4 @@ pub mod Counted
 pub mod Picks
 pub mod Moments
 pub mod Ranges
+pub mod Pieced

@@ -6,7 +6,7 @@ use Rattle.q4_disk.specs.declared.history.Step.{Step}
 use Rattle.q4_disk.specs.Told.{Sides}
 use Rattle.q4_disk.specs.Images.{on, put, both, Sided}
 use Rattle.q4_disk.specs.Replay.{side_of, Leaves, read_after, IsImage}
-use Rattle.q4_disk.specs.Laws.{reads_image}
+use Rattle.q4_disk.specs.inner.Laws.{reads_image}
 
 pub put_same : (side : Side) (s : Sides) → put side (on side s) s ≡ s
 put_same A s = refl

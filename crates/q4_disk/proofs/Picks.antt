@@ -5,12 +5,12 @@ use Rattle.q4_disk.specs.declared.disk.Side.{Side}
 use Rattle.q4_disk.specs.declared.disk.Side.TheVariants.{A, B}
 use Rattle.q4_disk.specs.declared.history.Step.{Step}
 use Rattle.q4_disk.specs.declared.history.Step.TheVariants.{Write, CutTo, Sync}
-use Rattle.q4_disk.specs.declared.stop.Pick.{Pick}
-use Rattle.q4_disk.specs.declared.stop.Pick.TheVariants.{Kept, Lost, Half, Ones}
+use Rattle.q4_disk.specs.declared.pick.Pick.{Pick}
+use Rattle.q4_disk.specs.declared.pick.Pick.TheVariants.{Kept, Lost, Half, Ones}
 use Rattle.q4_disk.specs.Images.{on, put, Torn, Cut}
 use Rattle.q4_disk.specs.Replay.{side_of, place, Leaves, read_after, IsImage}
 use Rattle.q4_disk.specs.Picked.{over, half, of_write, of_cut, picks, picked}
-use Rattle.q4_disk.specs.Laws.{on_put, other_put, torn_none, cut_whole, cut_none}
+use Rattle.q4_disk.specs.inner.Laws.{on_put, other_put, torn_none, cut_whole, cut_none}
 use Rattle.q4_disk.proofs.Mixed.{mix}
 
 -- fewer bytes than the range has, or as many, at its offset

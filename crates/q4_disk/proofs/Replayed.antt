@@ -5,13 +5,13 @@ use Rattle.q4_disk.specs.declared.disk.DiskFailed.{DiskFailed}
 use Rattle.q4_disk.specs.declared.history.Step.{Step}
 use Rattle.q4_disk.specs.declared.history.Step.TheVariants.{Write, CutTo, Sync}
 use Rattle.q4_disk.specs.declared.tally.Tally.{Tally}
-use Rattle.q4_disk.specs.Told.{Told}
-use Rattle.q4_disk.specs.Images.{on, put, written, Torn, Cut}
+use Rattle.q4_disk.specs.Told.{Sides, Told}
+use Rattle.q4_disk.specs.Images.{on, put, written, Torn, Cut, Sided}
 use Rattle.q4_disk.specs.Time.{Elapses}
 use Rattle.q4_disk.specs.Calls.{Steps, Wrote, DidCut, Synced}
 use Rattle.q4_disk.specs.Replay.{side_of, place, reads, Leaves, read_after, IsImage}
 use Rattle.q4_disk.specs.Memory.{told_of}
-use Rattle.q4_disk.specs.Laws.{on_put, other_put, torn_none, cut_none}
+use Rattle.q4_disk.specs.inner.Laws.{on_put, other_put, torn_none, cut_none}
 use Rattle.q4_disk.proofs.Mixed.{put_same, sided_put, put_read}
 
 abbrev pub told_at : List Step → Tally → Told
@@ -51,6 +51,10 @@ map_err : {T E : Type 0} (result : Result T E) {P Q : Type 0} → (P → Q) → 
 map_err (Ok x) f p = tt
 map_err (Err e) f p = f p
 
+-- what is read after a call that failed and left it as it was
+sided_same : (side : Side) (R : List ℕ → List ℕ → Type 0) (old new : Sides) → R (on side old) (on side old) → new ≡ old → Sided side R old new
+sided_same side R old new none is = subst (Sided side R old) (sym is) (record { here = none; there = refl })
+
 -- a write or a cut that stands in the record
 stepped : {T E : Type 0} (result : Result T E) (steps : List Step) (step : Step) (t0 t1 : Tally) (R : List ℕ → List ℕ → Type 0) (after : List ℕ)
     → ((old new : List ℕ) → Leaves step (on (side_of step) (read_after steps)) old new → R old new)
@@ -62,7 +66,7 @@ stepped : {T E : Type 0} (result : Result T E) (steps : List Step) (step : Step)
 stepped result steps step t0 t1 R after no_more no_fewer none done failed = record {
   time = elapses steps step t0 t1;
   done = map_ok result (λ is. ap (λ (l : List ℕ). put (side_of step) l (read_after steps)) is) done;
-  failed = map_err result (λ is. ap (λ (l : List ℕ). put (side_of step) l (read_after steps)) is ∙ put_same (side_of step) (read_after steps)) failed;
+  failed = map_err result (λ is. sided_same (side_of step) R (read_after steps) (read_after (step ∷ steps)) (none (on (side_of step) (read_after steps))) (ap (λ (l : List ℕ). put (side_of step) l (read_after steps)) is ∙ put_same (side_of step) (read_after steps))) failed;
   images = λ c im. (im.0, im.1, record { here = no_more (on (side_of step) im.0) (on (side_of step) c) im.2.here; there = im.2.there });
   each = on_ok result (λ d c im is. (d, im, record { here = no_fewer (on (side_of step) d) (on (side_of step) c) is.here; there = is.there }));
   kept = λ c im. (c, im, record { here = no_fewer (on (side_of step) c) (on (side_of step) c) (none (on (side_of step) c)); there = refl });
@@ -91,7 +95,7 @@ unmoved result steps now t0 t1 side R after failed is none =
     subst (λ (l : List Step). Steps side R after result (told_at steps t0) (told_at l t1)) (sym is) (record {
       time = stands steps t0 t1;
       done = no_ok result _ failed;
-      failed = on_err result refl;
+      failed = on_err result (record { here = none (on side (read_after steps)); there = refl });
       images = λ c im. (c, im, record { here = none (on side c); there = refl });
       each = no_ok result _ failed;
       kept = λ c im. im;

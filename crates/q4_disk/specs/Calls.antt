@@ -1,6 +1,9 @@
 -- What each device call does.
-use Rattle.std.specs.Prelude.{◌≡◌, ℕ, ◌+◌, ◌-◌, ◌^◌, ◌≤◌, min, List, ◌++◌, length, take, drop, Result, IfOk, OnOk, OnErr}
+use Rattle.std.specs.Prelude.{◌≡◌, ℕ, ◌+◌, ◌-◌, ◌^◌, ◌≤◌, min, List, ◌++◌, length, take, drop, Some, None, Result, IfOk, OnOk, OnErr}
 use Rattle.q4_disk.specs.declared.disk.Side.{Side}
+use Rattle.q4_disk.specs.declared.tally.Tally.{Tally}
+use Rattle.q4_disk.specs.declared.tally.DeviceCall.{DeviceCall}
+use Rattle.q4_disk.specs.declared.tally.DeviceCall.TheVariants as call
 use Rattle.q4_disk.specs.Told.{Sides, Told}
 use Rattle.q4_disk.specs.Images.{on, put, size, written, Torn, Cut, Sided, Within, Follows, Leads}
 use Rattle.q4_disk.specs.Time.{Elapses}
@@ -9,6 +12,9 @@ use Rattle.q4_disk.specs.Time.{Elapses}
 abbrev pub bump : ℕ → ℕ
 bump n = min (n + 1) (2 ^ 64 - 1)
 
+abbrev pub no_calls : Tally
+no_calls = record { last = None; faults = 0; refused = 0; calls = 0; writes = 0; syncs = 0 }
+
 -- A count of faults never falls. It rises where the call fails, and stays where it doesn't.
 pub record CountsFault {T E : Type 0} (result : Result T E) (before now : ℕ) : Type 0 where
   pub later : before ≤ now
@@ -16,24 +22,26 @@ pub record CountsFault {T E : Type 0} (result : Result T E) (before now : ℕ) :
   pub stayed : OnOk result (now ≡ before)
 
 -- what holds of each call, whatever the disk tells
-pub record IsCounted {T E : Type 0} (result : Result T E) (old new : Told) : Type 0 where
+pub record IsCounted {T E : Type 0} (made : DeviceCall) (result : Result T E) (old new : Told) : Type 0 where
   pub honest : new.honest ≡ old.honest
   pub faults : CountsFault result old.faults new.faults
   pub calls : new.calls ≡ bump old.calls
+  pub last : new.last ≡ Some made
 
 -- a call of size, read or cut
-pub record IsCall {T E : Type 0} (result : Result T E) (old new : Told) : Type 0 where
-  pub counted : IsCounted result old new
+pub record IsCall {T E : Type 0} (made : DeviceCall) (result : Result T E) (old new : Told) : Type 0 where
+  pub counted : IsCounted made result old new
   pub writes : new.writes ≡ old.writes
   pub syncs : new.syncs ≡ old.syncs
 
-pub record IsWrite {T E : Type 0} (result : Result T E) (old new : Told) : Type 0 where
-  pub counted : IsCounted result old new
+-- a write of so many bytes at an offset
+pub record IsWrite {T E : Type 0} (side : Side) (at count : ℕ) (result : Result T E) (old new : Told) : Type 0 where
+  pub counted : IsCounted (call.Write side at count) result old new
   pub writes : new.writes ≡ bump old.writes
   pub syncs : new.syncs ≡ old.syncs
 
-pub record IsSync {T E : Type 0} (result : Result T E) (old new : Told) : Type 0 where
-  pub counted : IsCounted result old new
+pub record IsSync {T E : Type 0} (side : Side) (result : Result T E) (old new : Told) : Type 0 where
+  pub counted : IsCounted (call.Sync side) result old new
   pub writes : new.writes ≡ old.writes
   pub syncs : new.syncs ≡ bump old.syncs
 
@@ -54,12 +62,12 @@ pub record Read {E : Type 0} (side : Side) (at : ℕ) (before after : List ℕ) 
   pub count : IfOk result (λ n. n ≡ min (length before) (size side old.bytes - at))
   pub into : IfOk result (λ n. after ≡ take n (drop at (on side old.bytes)) ++ drop n before)
 
--- A call that takes the bytes of one side to others, and leaves of its images what the step allows. A call that
--- fails changes nothing that is read, and may or may not have begun.
+-- A call that takes the bytes of one side to others, and leaves of its images what the step allows. After a call that
+-- fails, any bytes are read that a crash inside it may leave.
 pub record Steps {T E : Type 0} (side : Side) (step : List ℕ → List ℕ → Type 0) (after : List ℕ) (result : Result T E) (old new : Told) : Type 0 where
   pub time : Elapses old new
   pub done : OnOk result (new.bytes ≡ put side after old.bytes)
-  pub failed : OnErr result (new.bytes ≡ old.bytes)
+  pub failed : OnErr result (Sided side step old.bytes new.bytes)
   -- no image but by the step, each of them after success, and always those that there were
   pub images : Follows (Sided side step) old.images new.images
   pub each : OnOk result (Leads (Sided side step) old.images new.images)

@@ -4,7 +4,8 @@ pub mod Time
 pub mod Calls
 pub mod Replay
 pub mod Memory
-pub mod Laws
+pub mod Pieces
+pub mod inner
 pub mod Failing
 pub mod Stopping
 pub mod Picked

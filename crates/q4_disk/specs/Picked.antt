@@ -2,8 +2,8 @@
 use Rattle.std.specs.Prelude.{ℕ, ◌+◌, ◌-◌, ◌/◌, ◌==◌, if◌then◌else◌, List, [], ◌∷◌, ◌++◌, length, take, drop, replicate}
 use Rattle.q4_disk.specs.declared.history.Step.{Step}
 use Rattle.q4_disk.specs.declared.history.Step.TheVariants.{Write, CutTo, Sync}
-use Rattle.q4_disk.specs.declared.stop.Pick.{Pick}
-use Rattle.q4_disk.specs.declared.stop.Pick.TheVariants.{Kept, Lost, Half, Ones}
+use Rattle.q4_disk.specs.declared.pick.Pick.{Pick}
+use Rattle.q4_disk.specs.declared.pick.Pick.TheVariants.{Kept, Lost, Half, Ones}
 use Rattle.q4_disk.specs.Told.{Sides}
 use Rattle.q4_disk.specs.Images.{on, put}
 use Rattle.q4_disk.specs.Replay.{side_of, place, no_bytes, read_after}

@@ -1,11 +1,10 @@
 -- A disk that stops in the middle of one call.
-use Rattle.std.specs.Prelude.{◌≡◌, ℕ, ◌<◌, ◌≤◌, IsTrue}
+use Rattle.std.specs.Prelude.{◌≡◌, ℕ, ◌<◌, ◌≤◌}
 use Rattle.q4_disk.specs.declared.stop.Phase.{Phase}
 use Rattle.q4_disk.specs.declared.stop.Phase.TheVariants.{Before, At, Past}
-use Rattle.q4_disk.specs.Told.{Sides, Told}
+use Rattle.q4_disk.specs.Told.{Told}
 use Rattle.q4_disk.specs.Calls.{bump}
 use Rattle.q4_disk.specs.Memory.{Memory, told_of}
-use Rattle.q4_disk.specs.Laws.{counts, only, reads_image}
 
 pub record Stopping : Type 0 where
   -- the disk below
@@ -33,12 +32,3 @@ FailsNext d = d.stop ≤ bump d.made
 pub record CountsOwn (old new : Stopping) : Type 0 where
   pub stop : new.stop ≡ old.stop
   pub made : new.made ≡ bump old.made
-
-pub stopping_counts : (d : Stopping) → IsTrue (stopping_told d).honest → (t : ℕ) (c : Sides) → t ≤ (stopping_told d).moment → (stopping_told d).images c → (stopping_told d).since t c
-stopping_counts d h t c le now = counts d.memory.steps t c le now
-
-pub stopping_only : (d : Stopping) → IsTrue (stopping_told d).honest → (c : Sides) → (stopping_told d).since (stopping_told d).moment c → (stopping_told d).images c
-stopping_only d h c left = only d.memory.steps c left
-
-pub stopping_reads : (d : Stopping) → IsTrue (stopping_told d).honest → (stopping_told d).images (stopping_told d).bytes
-stopping_reads d h = reads_image d.memory.steps

@@ -1,5 +1,6 @@
 -- What contracts see of a disk.
-use Rattle.std.specs.Prelude.{ℕ, Bool, List}
+use Rattle.std.specs.Prelude.{ℕ, Bool, List, Option}
+use Rattle.q4_disk.specs.declared.tally.DeviceCall.{DeviceCall}
 
 -- the bytes of the two sides
 pub record Sides : Type 0 where
@@ -23,3 +24,5 @@ pub record Told : Type 1 where
   pub calls : ℕ
   pub writes : ℕ
   pub syncs : ℕ
+  -- the last device call, whether it failed or not
+  pub last : Option DeviceCall

@@ -1,5 +1,5 @@
 -- What contracts see of a disk of real files: its counts, and no content.
-use Rattle.std.specs.Prelude.{ℕ, false, IsTrue, ◌≤◌}
+use Rattle.std.specs.Prelude.{false}
 use Rattle.q4_disk.specs.declared.tally.Tally.{Tally}
 use Rattle.q4_disk.specs.Told.{Sides, Told}
 use Rattle.q4_disk.specs.Replay.{no_bytes}
@@ -19,13 +19,5 @@ untold tally = record {
   calls = tally.calls;
   writes = tally.writes;
   syncs = tally.syncs;
+  last = tally.last;
 }
-
-pub untold_counts : (tally : Tally) → IsTrue false → (t : ℕ) (c : Sides) → t ≤ 0 → ⊥ → ⊥
-untold_counts tally h t c le im = im
-
-pub untold_only : (tally : Tally) → IsTrue false → (c : Sides) → ⊥ → ⊥
-untold_only tally h c im = im
-
-pub untold_reads : (tally : Tally) → IsTrue false → ⊥
-untold_reads tally h = absurd (cc h)

@@ -1,15 +1,13 @@
-ghost use Rattle.std.specs.Prelude.{◌≡◌, ◌≤◌, length, IfOk};
-ghost use Rattle.q4_disk.specs.Untold.{untold, untold_counts, untold_only, untold_reads};
+ghost use Rattle.std.specs.Prelude.{◌≡◌};
+ghost use Rattle.q4_disk.specs.Calls.{no_calls};
+ghost use Rattle.q4_disk.specs.Untold.{untold};
+ghost use Rattle.q4_disk.specs.inner.Laws.{untold_reads};
 
-use crate::tally::Tally;
+use crate::pieces::{read_full, write_full};
+use crate::tally::{DeviceCall, Tally};
 use crate::{Disk, DiskFailed, Side};
 use std::fs::File;
-use std::io;
 use std::marker::Model;
-use std::os::unix::fs::FileExt;
-
-// Where no byte of a file can stand.
-const NO_OFFSET: u64 = 1 << 63;
 
 /// A disk of two real files, which a `FileMaker` opens. It counts its calls and faults, and tells no
 /// content.
@@ -30,7 +28,7 @@ impl Model for FileDisk {
 
 impl FileDisk {
     pub(crate) fn new(a: File, b: File) -> FileDisk
-        ensures { result ≡ record { faults = 0; calls = 0; writes = 0; syncs = 0 } }
+        ensures { result ≡ no_calls }
     {
         FileDisk {
             a,
@@ -50,14 +48,14 @@ impl FileDisk {
 impl Disk for FileDisk {
     ghost told = { untold };
 
-    ghost counts_now = { untold_counts };
+    ghost counts_now = { λ d h t c le im. im };
 
-    ghost only_now = { untold_only };
+    ghost only_now = { λ d h c im. im };
 
-    ghost reads_image = { untold_reads };
+    ghost reads_image = { λ d h. untold_reads h };
 
     fn size(&mut self, side: Side) -> Result<u64, DiskFailed> {
-        self.tally.count_call();
+        self.tally.count_call(DeviceCall::Size { side });
         match self.file(side).metadata() {
             Ok(found) => Ok(found.len()),
             Err(_) => Err(self.tally.count_fault()),
@@ -65,7 +63,8 @@ impl Disk for FileDisk {
     }
 
     fn read(&mut self, side: Side, at: u64, into: &mut [u8]) -> Result<usize, DiskFailed> {
-        self.tally.count_call();
+        let count = into.len() as u64;
+        self.tally.count_call(DeviceCall::Read { side, at, count });
         match read_full(self.file(side), at, into) {
             Ok(count) => Ok(count),
             Err(_) => Err(self.tally.count_fault()),
@@ -73,15 +72,19 @@ impl Disk for FileDisk {
     }
 
     fn write(&mut self, side: Side, at: u64, bytes: &[u8]) -> Result<(), DiskFailed> {
-        self.tally.count_write();
-        match write_full(self.file(side), at, bytes) {
+        self.tally.count_write(side, at, bytes.len() as u64);
+        let wrote = match side {
+            Side::A => write_full(&mut self.a, at, bytes),
+            Side::B => write_full(&mut self.b, at, bytes),
+        };
+        match wrote {
             Ok(()) => Ok(()),
             Err(_) => Err(self.tally.count_fault()),
         }
     }
 
     fn cut(&mut self, side: Side, length: u64) -> Result<(), DiskFailed> {
-        self.tally.count_call();
+        self.tally.count_call(DeviceCall::CutTo { side, length });
         match self.file(side).set_len(length) {
             Ok(()) => Ok(()),
             Err(_) => Err(self.tally.count_fault()),
@@ -90,7 +93,7 @@ impl Disk for FileDisk {
 
     /// It syncs the bytes and what is needed to find them, the length among it, and no times.
     fn sync(&mut self, side: Side) -> Result<(), DiskFailed> {
-        self.tally.count_sync();
+        self.tally.count_sync(side);
         match self.file(side).sync_data() {
             Ok(()) => Ok(()),
             Err(_) => Err(self.tally.count_fault()),
@@ -100,31 +103,4 @@ impl Disk for FileDisk {
     fn faults(&self) -> u64 {
         self.tally.faults
     }
-}
-
-// Reads until the slice is full or the file ends, in as many reads as that takes.
-fn read_full(file: &File, at: u64, into: &mut [u8]) -> io::Result<usize>
-    ensures { IfOk result (λ n. n ≤ length into.old) }
-{
-    let mut done = 0;
-    for _ in 0..u64::MAX {
-        if done >= into.len() || at >= NO_OFFSET - done as u64 {
-            return Ok(done);
-        }
-        match file.read_at(&mut into[done..], at + done as u64) {
-            Ok(0) => return Ok(done),
-            Ok(count) => done += count,
-            Err(fault) if fault.kind() == io::ErrorKind::Interrupted => {}
-            Err(fault) => return Err(fault),
-        }
-    }
-    Ok(done)
-}
-
-// Writes all of it, in as many writes as that takes.
-fn write_full(file: &File, at: u64, bytes: &[u8]) -> io::Result<()> {
-    if bytes.len() as u64 > NO_OFFSET || at > NO_OFFSET - bytes.len() as u64 {
-        return Err(io::ErrorKind::FileTooLarge.into());
-    }
-    file.write_all_at(bytes, at)
 }

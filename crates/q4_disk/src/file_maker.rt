@@ -9,8 +9,8 @@ use std::marker::Model;
 use std::path::Path;
 
 /// Opens disks of real files: `NAME.a` and `NAME.b`, made empty where they aren't there
-/// (`docs/FORMATS.md`, "Files of a table"). Both are locked until the disk is dropped, against others
-/// that ask for a lock.
+/// (`docs/FORMATS.md`, "Files of a table"), and syncs their folder each time. Both are locked until
+/// the disk is dropped, against others that ask for a lock.
 #[derive(Drop)]
 pub struct FileMaker<R: Files<File = File>> {
     files: R,
@@ -63,41 +63,29 @@ impl<R: Files<File = File>> DiskMaker for FileMaker<R> {
 }
 
 fn open_pair<R: Files<File = File>>(files: &R, a: &str, b: &str) -> io::Result<FileDisk> {
-    let (first, made_first) = open_locked(files, a)?;
-    let (second, made_second) = open_locked(files, b)?;
-    if made_first || made_second {
-        sync_folder(files, a)?;
-    }
+    let first = open_locked(files, a)?;
+    let second = open_locked(files, b)?;
+    sync_folder(files, a)?;
     Ok(FileDisk::new(first, second))
 }
 
-// Opens a regular file for this user alone, and tells whether it was made.
-fn open_locked<R: Files<File = File>>(files: &R, path: &str) -> io::Result<(File, bool)> {
-    let (file, made) = open_or_make(files, path)?;
+// Opens a regular file for this user alone, or makes it empty where it isn't there.
+fn open_locked<R: Files<File = File>>(files: &R, path: &str) -> io::Result<File> {
+    let file = OpenOptions::new()
+        .read(true)
+        .write(true)
+        .create(true)
+        .truncate(false)
+        .open(files, path)?;
     if !file.metadata()?.is_file() {
         return Err(io::ErrorKind::Unsupported.into());
     }
     file.try_lock()?;
-    Ok((file, made))
+    Ok(file)
 }
 
-fn open_or_make<R: Files<File = File>>(files: &R, path: &str) -> io::Result<(File, bool)> {
-    match OpenOptions::new().read(true).write(true).open(files, path) {
-        Err(fault) if fault.kind() == io::ErrorKind::NotFound => {
-            let file = OpenOptions::new()
-                .read(true)
-                .write(true)
-                .create(true)
-                .truncate(false)
-                .open(files, path)?;
-            Ok((file, true))
-        }
-        Err(fault) => Err(fault),
-        Ok(file) => Ok((file, false)),
-    }
-}
-
-// A new file's name is durable once its folder is.
+// A file's name is durable once its folder is. A file that is there already may have been made by a
+// run that ended before it synced the folder.
 fn sync_folder<R: Files<File = File>>(files: &R, path: &str) -> io::Result<()> {
     let folder = match Path::new(path).parent() {
         Some(folder) if !folder.as_str().is_empty() => folder.as_str(),

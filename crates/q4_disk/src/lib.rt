@@ -5,10 +5,14 @@ mod disk;
 mod failing;
 mod file;
 mod file_maker;
+#[cfg(test)]
+mod file_tests;
 mod history;
 mod maker;
 mod memory;
 mod numbers;
+mod pick;
+mod pieces;
 mod stop;
 mod tally;
 #[cfg(test)]
@@ -21,4 +25,5 @@ pub use file_maker::FileMaker;
 pub use maker::{DiskMaker, FailingMaker, MakeFault, MemoryMaker};
 pub use memory::MemoryDisk;
 pub use numbers::Numbers;
-pub use stop::{Pick, StopDisk};
+pub use pick::Pick;
+pub use stop::StopDisk;

@@ -1,11 +1,11 @@
-ghost use Rattle.std.specs.Prelude.{◌≡◌, ◌-◌, ◌≤◌, min, false, ◌++◌, length, take, drop, reverse, IsOk, IsErr, IfOk};
+ghost use Rattle.std.specs.Prelude.{◌≡◌, ◌-◌, ◌≤◌, min, true, false, ◌++◌, length, take, drop, reverse, IsOk, IsErr, IfOk};
 ghost use Rattle.q4_disk.specs.Images.{on, size};
-ghost use Rattle.q4_disk.specs.Calls.{IsCall, IsWrite, IsSync, Sized, Read, Wrote, DidCut};
-ghost use Rattle.q4_disk.specs.Memory.{told_of, new_memory, BreaksBy};
-ghost use Rattle.q4_disk.specs.Laws.{counts, only, reads_image};
+ghost use Rattle.q4_disk.specs.Calls.{IsCall, IsWrite, IsSync, Sized, Read, Wrote, DidCut, Synced};
+ghost use Rattle.q4_disk.specs.Memory.{told_of, new_memory, DoesBy, BreaksBy, DoesNothing};
+ghost use Rattle.q4_disk.specs.inner.Laws.{counts, only, reads_image};
 
 use crate::history::{History, Step};
-use crate::tally::Tally;
+use crate::tally::{DeviceCall, Tally};
 use crate::{Disk, DiskFailed, Side};
 use q4_value::NoMemory;
 use std::alloc::Global;
@@ -78,37 +78,42 @@ impl MemoryDisk {
     }
 
     /// A call of `size`, `read` or `cut` that fails and does nothing.
-    pub(crate) fn refuse_call<T>(&mut self) -> Result<T, DiskFailed>
+    pub(crate) fn refuse_call<T>(&mut self, call: DeviceCall) -> Result<T, DiskFailed>
         ensures failed { IsErr result }
-        ensures call { IsCall result (told_of self.old) (told_of self.new) }
-        ensures steps { self.new.steps ≡ self.old.steps }
+        ensures call { IsCall call result (told_of self.old) (told_of self.new) }
+        ensures nothing { DoesNothing self.old self.new }
     {
-        self.tally.count_call();
+        self.tally.count_call(call);
         Err(self.tally.count_fault())
     }
 
     /// A write that fails and does nothing.
-    pub(crate) fn refuse_write(&mut self) -> Result<(), DiskFailed>
+    pub(crate) fn refuse_write(
+        &mut self,
+        side: Side,
+        at: u64,
+        count: usize,
+    ) -> Result<(), DiskFailed>
         ensures failed { IsErr result }
-        ensures call { IsWrite result (told_of self.old) (told_of self.new) }
-        ensures steps { self.new.steps ≡ self.old.steps }
+        ensures call { IsWrite side at count result (told_of self.old) (told_of self.new) }
+        ensures nothing { DoesNothing self.old self.new }
     {
-        self.tally.count_write();
+        self.tally.count_write(side, at, count as u64);
         Err(self.tally.count_fault())
     }
 
     /// A sync that fails and does nothing.
-    pub(crate) fn refuse_sync(&mut self) -> Result<(), DiskFailed>
+    pub(crate) fn refuse_sync(&mut self, side: Side) -> Result<(), DiskFailed>
         ensures failed { IsErr result }
-        ensures call { IsSync result (told_of self.old) (told_of self.new) }
-        ensures steps { self.new.steps ≡ self.old.steps }
+        ensures call { IsSync side result (told_of self.old) (told_of self.new) }
+        ensures nothing { DoesNothing self.old self.new }
     {
-        self.tally.count_sync();
+        self.tally.count_sync(side);
         Err(self.tally.count_fault())
     }
 
     /// A write that fails in the middle: what is read stays, and a crash may leave any of it. Where
-    /// memory is wanted for the record it leaves nothing.
+    /// memory is refused for the record it leaves nothing.
     pub(crate) fn break_write(
         &mut self,
         side: Side,
@@ -117,31 +122,33 @@ impl MemoryDisk {
     ) -> Result<(), DiskFailed>
         requires { at ≤ size side (told_of self.old).bytes }
         ensures failed { IsErr result }
-        ensures call { IsWrite result (told_of self.old) (told_of self.new) }
+        ensures call { IsWrite side at (length bytes.now) result
+            (told_of self.old) (told_of self.new) }
         ensures write { Wrote side at bytes.now result (told_of self.old) (told_of self.new) }
         ensures breaks { BreaksBy (Step.Write side at bytes.now false) self.old self.new }
     {
-        self.tally.count_write();
+        self.tally.count_write(side, at, bytes.len() as u64);
         match self
             .history
             .begin_write(self.alloc, side, at as usize, bytes)
         {
             Ok(()) => Err(self.tally.count_fault()),
-            Err(NoMemory) => Err(self.tally.count_fault()),
+            Err(NoMemory) => Err(self.tally.count_refused()),
         }
     }
 
     /// A cut that fails in the middle, likewise.
     pub(crate) fn break_cut(&mut self, side: Side, length: u64) -> Result<(), DiskFailed>
         ensures failed { IsErr result }
-        ensures call { IsCall result (told_of self.old) (told_of self.new) }
+        ensures call { IsCall (DeviceCall.CutTo side length) result
+            (told_of self.old) (told_of self.new) }
         ensures cut { DidCut side length result (told_of self.old) (told_of self.new) }
         ensures breaks { BreaksBy (Step.CutTo side length false) self.old self.new }
     {
-        self.tally.count_call();
+        self.tally.count_call(DeviceCall::CutTo { side, length });
         match self.history.begin_cut(side, length as usize) {
             Ok(()) => Err(self.tally.count_fault()),
-            Err(NoMemory) => Err(self.tally.count_fault()),
+            Err(NoMemory) => Err(self.tally.count_refused()),
         }
     }
 }
@@ -157,46 +164,69 @@ impl Disk for MemoryDisk {
 
     /// It never fails.
     fn size(&mut self, side: Side) -> Result<u64, DiskFailed>
-        ensures call { IsCall result (told_of self.old) (told_of self.new) }
+        ensures call { IsCall (DeviceCall.Size side) result (told_of self.old) (told_of self.new) }
         ensures size { Sized side result (told_of self.old) (told_of self.new) }
         ensures ok { IsOk result }
+        ensures nothing { DoesNothing self.old self.new }
     {
-        self.tally.count_call();
+        self.tally.count_call(DeviceCall::Size { side });
         Ok(self.history.bytes(side).len() as u64)
     }
 
     /// It never fails.
     fn read(&mut self, side: Side, at: u64, into: &mut [u8]) -> Result<usize, DiskFailed>
-        ensures call { IsCall result (told_of self.old) (told_of self.new) }
+        ensures call { IsCall (DeviceCall.Read side at (length into.old)) result
+            (told_of self.old) (told_of self.new) }
         ensures room { IfOk result (λ n. n ≤ length into.old) }
         ensures read { Read side at into.old into.new result (told_of self.old) (told_of self.new) }
         ensures ok { IsOk result }
+        ensures nothing { DoesNothing self.old self.new }
     {
-        self.tally.count_call();
+        let count = into.len() as u64;
+        self.tally.count_call(DeviceCall::Read { side, at, count });
         Ok(read_from(self.history.bytes(side), at, into))
     }
 
-    fn write(&mut self, side: Side, at: u64, bytes: &[u8]) -> Result<(), DiskFailed> {
-        self.tally.count_write();
+    /// It fails only where memory is refused, and then does nothing.
+    fn write(&mut self, side: Side, at: u64, bytes: &[u8]) -> Result<(), DiskFailed>
+        requires { at ≤ size side (told_of self.old).bytes }
+        ensures call { IsWrite side at (length bytes.now) result
+            (told_of self.old) (told_of self.new) }
+        ensures write { Wrote side at bytes.now result (told_of self.old) (told_of self.new) }
+        ensures does { DoesBy (Step.Write side at bytes.now true) result self.old self.new }
+    {
+        self.tally.count_write(side, at, bytes.len() as u64);
         match self.history.write(self.alloc, side, at as usize, bytes) {
             Ok(()) => Ok(()),
-            Err(NoMemory) => Err(self.tally.count_fault()),
+            Err(NoMemory) => Err(self.tally.count_refused()),
         }
     }
 
-    fn cut(&mut self, side: Side, length: u64) -> Result<(), DiskFailed> {
-        self.tally.count_call();
+    /// It fails only where memory is refused, and then does nothing.
+    fn cut(&mut self, side: Side, length: u64) -> Result<(), DiskFailed>
+        requires { length ≤ size side (told_of self.old).bytes }
+        ensures call { IsCall (DeviceCall.CutTo side length) result
+            (told_of self.old) (told_of self.new) }
+        ensures cut { DidCut side length result (told_of self.old) (told_of self.new) }
+        ensures does { DoesBy (Step.CutTo side length true) result self.old self.new }
+    {
+        self.tally.count_call(DeviceCall::CutTo { side, length });
         match self.history.cut(side, length as usize) {
             Ok(()) => Ok(()),
-            Err(NoMemory) => Err(self.tally.count_fault()),
+            Err(NoMemory) => Err(self.tally.count_refused()),
         }
     }
 
-    fn sync(&mut self, side: Side) -> Result<(), DiskFailed> {
-        self.tally.count_sync();
+    /// It fails only where memory is refused, and then does nothing.
+    fn sync(&mut self, side: Side) -> Result<(), DiskFailed>
+        ensures call { IsSync side result (told_of self.old) (told_of self.new) }
+        ensures sync { Synced side result (told_of self.old) (told_of self.new) }
+        ensures does { DoesBy (Step.Sync side) result self.old self.new }
+    {
+        self.tally.count_sync(side);
         match self.history.sync(side) {
             Ok(()) => Ok(()),
-            Err(NoMemory) => Err(self.tally.count_fault()),
+            Err(NoMemory) => Err(self.tally.count_refused()),
         }
     }
 

@@ -4,13 +4,13 @@ ghost use Rattle.q4_disk.specs.Images.{on, written, Torn, Sided};
 ghost use Rattle.q4_disk.specs.Time.{LeavesOnly};
 ghost use Rattle.q4_disk.specs.Calls.{CountsFault};
 
+use crate::pick::image_of;
 use crate::{
-    Disk, DiskFailed, DiskMaker, FailingMaker, FileDisk, FileMaker, MakeFault, MemoryDisk,
-    MemoryMaker, Numbers, Pick, Side, StopDisk,
+    Disk, DiskFailed, DiskMaker, FailingMaker, FileMaker, MemoryDisk, MemoryMaker, Numbers, Pick,
+    Side, StopDisk,
 };
 use q4_value::NoMemory;
 use std::alloc::Global;
-use std::fs;
 use std::test::Fail;
 
 // Writes at the front of a side, and syncs. At each moment within it a crash leaves an image of
@@ -32,7 +32,7 @@ fn store<D: Disk>(disk: &mut D, side: Side, bytes: &[u8]) -> Result<(), DiskFail
 
 // A call that every disk allows at any time.
 #[derive(Clone, Copy)]
-enum Call {
+pub(crate) enum Call {
     Size(Side),
     // at most two bytes
     Read(Side, u64),
@@ -44,7 +44,7 @@ enum Call {
 }
 
 #[derive(Clone, Copy, Debug, PartialEq, Eq)]
-enum Answer {
+pub(crate) enum Answer {
     Done,
     Size(u64),
     Read(usize, [u8; 2]),
@@ -72,7 +72,7 @@ fn done(outcome: Result<(), DiskFailed>) -> Answer {
 }
 
 // The first call, counted from 1, that isn't answered so.
-fn first_wrong<D: Disk>(disk: &mut D, rows: &[(Call, Answer)]) -> Option<usize> {
+pub(crate) fn first_wrong<D: Disk>(disk: &mut D, rows: &[(Call, Answer)]) -> Option<usize> {
     for (index, (call, want)) in rows.iter().enumerate() {
         if answer_of(disk, *call) != *want {
             return Some(index + 1);
@@ -85,7 +85,7 @@ fn counts(disk: &MemoryDisk) -> [u64; 4] {
     [disk.calls(), disk.writes(), disk.syncs(), disk.faults()]
 }
 
-static PLAIN: [(Call, Answer); 12] = [
+pub(crate) static PLAIN: [(Call, Answer); 12] = [
     (Call::Put(Side::A, &[1, 2, 3]), Answer::Done),
     (Call::Sync(Side::A), Answer::Done),
     (Call::Put(Side::A, &[9]), Answer::Done),
@@ -127,9 +127,28 @@ fn fails_the_listed_calls(rt: HostRuntime) -> Result<(), Fail> {
     let mut disk = maker.make(rt.alloc(), "jobs")?;
     assert_eq!(rt; first_wrong(&mut disk, &FAILING), None);
     assert_eq!(rt; counts(disk.inner()), [9, 3, 2, 5]);
+    // the write and the cut that failed have begun
+    assert_eq!(rt;
+        wrong_pick(
+            rt.alloc(),
+            disk.inner(),
+            Side::A,
+            &[&[], &[3, 2], &[], &[1, 1]]
+        )?,
+        None
+    );
     // each disk counts for itself
     let mut other = maker.make(rt.alloc(), "hot")?;
-    assert_eq!(rt; first_wrong(&mut other, &FAILING), None);
+    assert_eq!(rt; first_wrong(&mut other, &FAILING[..7]), None);
+    assert_eq!(rt;
+        wrong_pick(
+            rt.alloc(),
+            other.inner(),
+            Side::A,
+            &[&[9, 2], &[3, 2], &[3, 2], &[1, 2]]
+        )?,
+        None
+    );
     Ok(())
 }
 
@@ -166,7 +185,7 @@ fn stops_at_a_call(rt: HostRuntime) -> Result<(), Fail> {
     assert_eq!(rt; first_wrong(&mut disk, &STOPPED), None);
     assert_eq!(rt; counts(disk.inner()), [7, 2, 2, 5]);
     assert_eq!(rt;
-        wrong_pick(rt.alloc(), &disk, Side::A, &[&[1], &[1], &[1], &[1]])?,
+        wrong_pick(rt.alloc(), disk.inner(), Side::A, &[&[1], &[1], &[1], &[1]])?,
         None
     );
     Ok(())
@@ -339,12 +358,12 @@ fn wrong_change(disk: &mut StopDisk, row: &Stop) -> Option<u64> {
 // The first pick whose image is another.
 fn wrong_pick(
     alloc: Global,
-    disk: &StopDisk,
+    disk: &MemoryDisk,
     side: Side,
     want: &[&[u8]; 4],
 ) -> Result<Option<Pick>, NoMemory> {
     for (pick, want) in PICKS.iter().zip(want.iter()) {
-        if disk.image(alloc, side, *pick)?.as_slice() != *want {
+        if image_of(alloc, disk.steps(), side, *pick)?.as_slice() != *want {
             return Ok(Some(*pick));
         }
     }
@@ -356,65 +375,11 @@ fn gives_the_picked_images(rt: HostRuntime) -> Result<(), Fail> {
     for row in &STOPS {
         let mut disk = StopDisk::new(seeded(rt.alloc(), row.a, row.b)?, row.stop);
         assert_eq!(rt; wrong_change(&mut disk, row), None, "{}", row.name);
-        let a = wrong_pick(rt.alloc(), &disk, Side::A, &row.images_a)?;
+        let a = wrong_pick(rt.alloc(), disk.inner(), Side::A, &row.images_a)?;
         assert_eq!(rt; a, None, "{} A", row.name);
-        let b = wrong_pick(rt.alloc(), &disk, Side::B, &row.images_b)?;
+        let b = wrong_pick(rt.alloc(), disk.inner(), Side::B, &row.images_b)?;
         assert_eq!(rt; b, None, "{} B", row.name);
     }
-    Ok(())
-}
-
-// Writes within and over what was written, cuts, and syncs.
-fn edit(disk: &mut FileDisk, long: &[u8]) -> Result<(), DiskFailed> {
-    disk.write(Side::A, 0, long)?;
-    disk.write(Side::A, 1, &[1, 2])?;
-    disk.cut(Side::A, 69_999)?;
-    disk.sync(Side::A)?;
-    disk.write(Side::B, 0, &[5, 6])?;
-    disk.sync(Side::B)
-}
-
-// How many bytes one read of side A gives, and how many of them are 7.
-fn sevens(alloc: Global, disk: &mut FileDisk) -> Result<(usize, usize), Fail> {
-    let mut all = vec![in alloc; 0u8; 80_000]?;
-    let count = disk.read(Side::A, 0, &mut all)?;
-    Ok((count, all.iter().filter(|byte| **byte == 7).count()))
-}
-
-static REOPENED: [(Call, Answer); 6] = [
-    (Call::Size(Side::A), Answer::Size(69_999)),
-    (Call::Read(Side::A, 0), Answer::Read(2, [7, 1])),
-    (Call::Read(Side::A, 2), Answer::Read(2, [2, 7])),
-    (Call::Read(Side::A, 69_998), Answer::Read(1, [7, 0])),
-    (Call::Size(Side::B), Answer::Size(2)),
-    (Call::Read(Side::B, 0), Answer::Read(2, [5, 6])),
-];
-
-#[test]
-fn keeps_bytes_in_files(rt: HostRuntime) -> Result<(), Fail> {
-    let long = vec![in rt.alloc(); 7u8; 70_000]?;
-    let mut maker = FileMaker::new(&rt);
-    let mut disk = maker.make(rt.alloc(), "jobs")?;
-    edit(&mut disk, &long)?;
-    // another user is kept out as long as this one has the files
-    let locked = maker.make(rt.alloc(), "jobs").err();
-    assert_eq!(rt; locked, Some(MakeFault::Failed));
-    drop(disk);
-    let mut disk = maker.make(rt.alloc(), "jobs")?;
-    assert_eq!(rt; first_wrong(&mut disk, &REOPENED), None);
-    assert_eq!(rt; sevens(rt.alloc(), &mut disk)?, (69_999, 69_997));
-    Ok(())
-}
-
-#[test]
-fn answers_in_files(rt: HostRuntime) -> Result<(), Fail> {
-    let mut disk = FileMaker::new(&rt).make(rt.alloc(), "jobs")?;
-    assert_eq!(rt; first_wrong(&mut disk, &PLAIN), None);
-    // past what a file can hold
-    assert_eq!(rt; disk.write(Side::B, u64::MAX, &[1]), Err(DiskFailed));
-    assert_eq!(rt; disk.cut(Side::B, u64::MAX), Err(DiskFailed));
-    assert_eq!(rt; disk.faults(), 2);
-    assert_eq!(rt; fs::read(&rt, "jobs.b")?.as_slice(), [5].as_slice());
     Ok(())
 }
 
@@ -428,16 +393,5 @@ fn crosses_threads(rt: HostRuntime) -> Result<(), Fail> {
     can_cross(FailingMaker::new(failing).make(rt.alloc(), "jobs")?);
     can_cross(StopDisk::new(MemoryDisk::new(rt.alloc()), 1));
     can_cross(FileMaker::new(&rt).make(rt.alloc(), "jobs")?);
-    Ok(())
-}
-
-#[test]
-fn refuses_names_that_cannot_be_opened(rt: HostRuntime) -> Result<(), Fail> {
-    fs::create_dir(&rt, "folder.b")?;
-    let mut maker = FileMaker::new(&rt);
-    for name in ["missing/jobs", "folder", "a\0b"] {
-        let fault = maker.make(rt.alloc(), name).err();
-        assert_eq!(rt; fault, Some(MakeFault::Failed), "{name}");
-    }
     Ok(())
 }

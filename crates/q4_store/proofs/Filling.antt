@@ -8,7 +8,7 @@ use Rattle.q4_disk.specs.declared.disk.Side.{Side}
 use Rattle.q4_disk.specs.Told.{Sides, Told}
 use Rattle.q4_disk.specs.Images.{on, other, put, written, Within}
 use Rattle.q4_disk.specs.Time.{OtherStays}
-use Rattle.q4_disk.specs.Laws.{on_put, other_put}
+use Rattle.q4_disk.specs.inner.Laws.{on_put, other_put}
 use Rattle.q4_store.specs.Reading.{IsBehind}
 use Rattle.q4_store.specs.Parts.{IsShut, IsFilled, opened}
 

@@ -10,7 +10,7 @@ use Rattle.q4_disk.specs.declared.disk.Side.TheVariants.{A, B}
 use Rattle.q4_disk.specs.Told.{Sides, Told}
 use Rattle.q4_disk.specs.Images.{on, other, put, written, Torn, Cut, Sided, Within}
 use Rattle.q4_disk.specs.Calls.{Wrote, DidCut, Synced}
-use Rattle.q4_disk.specs.Laws.{on_put}
+use Rattle.q4_disk.specs.inner.Laws.{on_put}
 use Rattle.q4_disk.proofs.Moments.{Along, began, wrote, did_cut, synced, synced_ok}
 use Rattle.q4_store.specs.Reading.{IsCurrent, ReadsNew, Reads, Alike, ReadsAs}
 use Rattle.q4_store.specs.Parts.{IsShut, IsIdle, IsSpare, IsReady}

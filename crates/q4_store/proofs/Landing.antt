@@ -6,7 +6,7 @@ use Rattle.q4_disk.specs.declared.disk.Side.{Side}
 use Rattle.q4_disk.specs.Told.{Sides, Told}
 use Rattle.q4_disk.specs.Images.{on, other, put, size, written, Torn, Sided}
 use Rattle.q4_disk.specs.Calls.{Wrote, Synced}
-use Rattle.q4_disk.specs.Laws.{on_put}
+use Rattle.q4_disk.specs.inner.Laws.{on_put}
 use Rattle.q4_disk.proofs.Moments.{Along, began, wrote, synced, synced_ok}
 use Rattle.q4_disk.proofs.Ranges.{written_at, torn_front, torn_byte}
 use Rattle.q4_store.specs.Commit.{EndsBehind, IsClosedBehind, IsOpenBehind, MayHaveBatch, grown}

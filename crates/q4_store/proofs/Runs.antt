@@ -6,6 +6,7 @@ use Rattle.q4_value.specs.declared.column.Column.{Column}
 use Rattle.q4_record.specs.Side.{IsOpen}
 use Rattle.q4_disk.specs.declared.disk.DiskFailed.{DiskFailed}
 use Rattle.q4_disk.specs.declared.disk.Side.{Side}
+use Rattle.q4_disk.specs.declared.tally.DeviceCall.{DeviceCall as Last}
 use Rattle.q4_disk.specs.Told.{Sides, Told}
 use Rattle.q4_disk.specs.Images.{size}
 use Rattle.q4_disk.specs.Calls.{IsCall}
@@ -87,16 +88,16 @@ module _ {D : Type 0} (told : D → Told) where
   load_stops side n total honest (Err why) a b c whole sized stops = (n, whole, stops_then (Size side ∷ []) (Read side 0 n ∷ []) why a b c sized stops)
 
 -- what is said of a call doesn't rest on its answer
-pub called_ok : {T : Type 0} (x : T) (old new : Told) → IsCall {T = T} {E = DiskFailed} (Ok x) old new → IsCall {T = Unit {0}} {E = DiskFailed} (Ok tt) old new
+pub called_ok : {T : Type 0} {made : Last} (x : T) (old new : Told) → IsCall {T = T} {E = DiskFailed} made (Ok x) old new → IsCall {T = Unit {0}} {E = DiskFailed} made (Ok tt) old new
 called_ok x old new call = record {
-  counted = record { honest = call.counted.honest; faults = record { later = call.counted.faults.later; failed = tt; stayed = call.counted.faults.stayed }; calls = call.counted.calls };
+  counted = record { honest = call.counted.honest; faults = record { later = call.counted.faults.later; failed = tt; stayed = call.counted.faults.stayed }; calls = call.counted.calls; last = call.counted.last };
   writes = call.writes;
   syncs = call.syncs;
 }
 
-pub called_err : {T : Type 0} (why : DiskFailed) (old new : Told) → IsCall {T = T} {E = DiskFailed} (Err why) old new → IsCall {T = Unit {0}} {E = DiskFailed} (Err why) old new
+pub called_err : {T : Type 0} {made : Last} (why : DiskFailed) (old new : Told) → IsCall {T = T} {E = DiskFailed} made (Err why) old new → IsCall {T = Unit {0}} {E = DiskFailed} made (Err why) old new
 called_err why old new call = record {
-  counted = record { honest = call.counted.honest; faults = record { later = call.counted.faults.later; failed = call.counted.faults.failed; stayed = tt }; calls = call.counted.calls };
+  counted = record { honest = call.counted.honest; faults = record { later = call.counted.faults.later; failed = call.counted.faults.failed; stayed = tt }; calls = call.counted.calls; last = call.counted.last };
   writes = call.writes;
   syncs = call.syncs;
 }

@@ -10,7 +10,7 @@ use Rattle.q4_disk.specs.Told.{Sides, Told}
 use Rattle.q4_disk.specs.Images.{on, other, put, written, Torn, Sided, Within}
 use Rattle.q4_disk.specs.Time.{OtherStays}
 use Rattle.q4_disk.specs.Calls.{Wrote, Synced}
-use Rattle.q4_disk.specs.Laws.{on_put}
+use Rattle.q4_disk.specs.inner.Laws.{on_put}
 use Rattle.q4_disk.proofs.Moments.{Along, began, wrote, synced}
 use Rattle.q4_disk.proofs.Ranges.{torn_byte}
 use Rattle.q4_store.specs.Reading.{IsBehind, Reads, ReadsAs}

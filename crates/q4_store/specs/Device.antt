@@ -7,6 +7,7 @@ use Rattle.q4_record.specs.Side.{base_at, IsOpen}
 use Rattle.q4_disk.specs.declared.disk.DiskFailed.{DiskFailed}
 use Rattle.q4_disk.specs.declared.disk.Side.{Side}
 use Rattle.q4_disk.specs.declared.disk.Side.TheVariants.{A, B}
+use Rattle.q4_disk.specs.declared.tally.DeviceCall.TheVariants as last
 use Rattle.q4_disk.specs.Told.{Told}
 use Rattle.q4_disk.specs.Images.{size}
 use Rattle.q4_disk.specs.Calls.{IsCall, IsWrite, IsSync, Rests, Wrote, DidCut, Synced}
@@ -24,13 +25,14 @@ pub data DeviceCall : Type 0 where
   Cut : Side → ℕ → DeviceCall
   Sync : Side → DeviceCall
 
--- One call was made and ended so, as the disk says of it. What it read is no part of this.
+-- One call was made and ended so, as the disk says of it: of which side, at which place and of how many bytes. What it
+-- read is no part of this.
 abbrev pub IsMade : DeviceCall → Result (Unit {0}) DiskFailed → Told → Told → Type 0
-IsMade (Size side) result old new = IsCall result old new × (IsTrue old.honest → Rests old new)
-IsMade (Read side at most) result old new = IsCall result old new × (IsTrue old.honest → Rests old new)
-IsMade (Write side at bytes) result old new = IsWrite result old new × (IsTrue old.honest → Wrote side at bytes result old new)
-IsMade (Cut side length) result old new = IsCall result old new × (IsTrue old.honest → DidCut side length result old new)
-IsMade (Sync side) result old new = IsSync result old new × (IsTrue old.honest → Synced side result old new)
+IsMade (Size side) result old new = IsCall (last.Size side) result old new × (IsTrue old.honest → Rests old new)
+IsMade (Read side at most) result old new = IsCall (last.Read side at most) result old new × (IsTrue old.honest → Rests old new)
+IsMade (Write side at bytes) result old new = IsWrite side at (length bytes) result old new × (IsTrue old.honest → Wrote side at bytes result old new)
+IsMade (Cut side to) result old new = IsCall (last.CutTo side to) result old new × (IsTrue old.honest → DidCut side to result old new)
+IsMade (Sync side) result old new = IsSync side result old new × (IsTrue old.honest → Synced side result old new)
 
 -- These calls were made in this order, and none failed.
 abbrev pub AllMade : {D : Type 0} → (D → Told) → List DeviceCall → D → D → Type 0

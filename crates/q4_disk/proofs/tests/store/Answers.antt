@@ -3,7 +3,7 @@ use Rattle.q4_disk.specs.declared.disk.Side.{Side}
 use Rattle.q4_disk.specs.Told.{Sides, Told}
 use Rattle.q4_disk.specs.Images.{on, Torn, Sided}
 use Rattle.q4_disk.specs.Calls.{Wrote}
-use Rattle.q4_disk.specs.Laws.{torn_none}
+use Rattle.q4_disk.specs.inner.Laws.{torn_none}
 use Rattle.q4_disk.proofs.Moments.{Along, began, wrote, synced}
 use Rattle.q4_disk.proofs.tests.store.Goals as goal
 

@@ -165,14 +165,14 @@ module _ (g : given.Over) where
   there_last c h = ap (on (other c.args.side)) (c.sync-2.ensures.sync (c.write-2.ensures.call.counted.honest ∙ (c.sync.ensures.call.counted.honest ∙ (c.write.ensures.call.counted.honest ∙ h)))).bytes ∙ there_gate (goal.at.After-sync-2 g c).In_ok-write-2 h
 
 pub returns-in_err-write-clause-there : goal.returns-in_err-write-clause-there
-returns-in_err-write-clause-there g c h = ap (on (other c.args.side)) (c.in_err-write.ensures.write h).failed
+returns-in_err-write-clause-there g c h = (c.in_err-write.ensures.write h).failed.there
 
 pub returns-in_err-sync-clause-there : goal.returns-in_err-sync-clause-there
 returns-in_err-sync-clause-there g c h = there_synced g (goal.at.returns-in_err-sync-clause-there g c).After-sync h
 
 pub returns-in_err-write-2-clause-there : goal.returns-in_err-write-2-clause-there
 returns-in_err-write-2-clause-there g c h =
-    ap (on (other c.args.side)) (c.in_err-write-2.ensures.write (c.sync.ensures.call.counted.honest ∙ (c.write.ensures.call.counted.honest ∙ h))).failed ∙ there_synced g (goal.at.returns-in_err-write-2-clause-there g c).After-sync h
+    (c.in_err-write-2.ensures.write (c.sync.ensures.call.counted.honest ∙ (c.write.ensures.call.counted.honest ∙ h))).failed.there ∙ there_synced g (goal.at.returns-in_err-write-2-clause-there g c).After-sync h
 
 pub returns-in_err-sync-2-clause-there : goal.returns-in_err-sync-2-clause-there
 returns-in_err-sync-2-clause-there g c h = there_last g (goal.at.returns-in_err-sync-2-clause-there g c).After-sync-2 h

@@ -1,5 +1,5 @@
--- What holds of each record of calls.
-use Rattle.std.specs.Prelude.{◌≡◌, ℕ, ◌+◌, ◌-◌, ◌≤◌, min, true, false, List, [], ◌∷◌, ◌++◌, length, take, drop, refl}
+-- The laws of the trait: of each record of calls, and of a disk of which nothing is told.
+use Rattle.std.specs.Prelude.{◌≡◌, IsTrue, ℕ, ◌+◌, ◌-◌, ◌≤◌, min, true, false, List, [], ◌∷◌, ◌++◌, length, take, drop, refl}
 use Rattle.std.proofs.Common.{inl, inr, sym, ◌∙◌, ap, subst, arith, append_assoc, length-append}
 use Rattle.std.proofs.lemmas.List.{take_at, drop_at, take_min, take_all, length-take, length-drop}
 use Rattle.q4_disk.specs.declared.disk.Side.{Side}
@@ -79,3 +79,7 @@ reads_image (step ∷ earlier) =
         there = other_put side (reads step (on side seen)) seen;
       },
     )
+
+-- a disk that isn't honest owes no law
+pub untold_reads : IsTrue false → ⊥
+untold_reads h = absurd (cc h)

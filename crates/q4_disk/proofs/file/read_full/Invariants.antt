@@ -1,5 +1,0 @@
-use Rattle.std.proofs.Common.{◌≤◌, length}
-use Rattle.q4_disk.proofs.file.read_full.Given as goal
-
-abbrev pub invariant-loop : goal.invariant-loop
-invariant-loop l = l.done ≤ length l.into
