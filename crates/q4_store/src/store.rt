@@ -441,6 +441,9 @@ impl<D: Disk> Store<D> {
         requires content { (content : Content) × StandsFor D.told self.old content × (table_of content ≡ without_owners table.now) }
         ensures any_moment { (content : Content) → StandsFor D.told self.old content → table_of content ≡ without_owners table.now → IsTrue (D.told self.old.disk).honest
             → LeavesOnly (D.told self.old.disk) (D.told self.new.disk) (IsPrefixOrNew content self.old.generation) }
+        // The new table is read at no moment of a finish that is refused before its gate was written.
+        ensures before_the_gate { IfErr result (λ fault. fault ≢ CopyFault.Unsure → (content : Content) → StandsFor D.told self.old content → IsTrue (D.told self.old.disk).honest
+            → LeavesOnly (D.told self.old.disk) (D.told self.new.disk) (IsPrefix content self.old.generation)) }
         // The new side stands for the table as it is, and nothing waits.
         ensures stands { OnOk result ((content : Content) → StandsFor D.told self.old content → table_of content ≡ without_owners table.now → StandsFor D.told self.new (all_committed content)) }
         ensures generation { IfOk result (λ generation. generation ≡ self.old.generation + 1) }
@@ -485,6 +488,8 @@ impl<D: Disk> Store<D> {
         requires content { (content : Content) × StandsFor D.told self.old content × IsRest self.old progress content last.now header.now }
         ensures any_moment { (content : Content) → StandsFor D.told self.old content → IsRest self.old progress content last.now header.now → IsTrue (D.told self.old.disk).honest
             → LeavesOnly (D.told self.old.disk) (D.told self.new.disk) (IsPrefixOrNew content self.old.generation) }
+        ensures before_the_gate { IfErr result (λ fault. fault ≢ CopyFault.Unsure → (content : Content) → StandsFor D.told self.old content → IsTrue (D.told self.old.disk).honest
+            → LeavesOnly (D.told self.old.disk) (D.told self.new.disk) (IsPrefix content self.old.generation)) }
         ensures stands { OnOk result ((content : Content) → StandsFor D.told self.old content → IsRest self.old progress content last.now header.now → StandsFor D.told self.new (all_committed content)) }
         ensures finished { OnOk result (self.new ≡ record self.old { disk = self.new.disk; side = other self.old.side; end = progress.at + length last.now; generation = self.old.generation + 1; records = []; reserved = 0; known = false; copy = None; ends = [] }) }
         ensures generation { IfOk result (λ generation. generation ≡ self.old.generation + 1) }

@@ -136,6 +136,9 @@ returns-clause-any_moment g c content s same = c.finish.ensures.any_moment conte
 pub returns-clause-stands : goal.returns-clause-stands
 returns-clause-stands g c = on_ok c.finish.result (λ stands content s same. stands content s (rest_given g (goal.at.returns-clause-stands g c).After-header_of-header content same)) c.finish.ensures.stands
 
+pub returns-clause-before_the_gate : goal.returns-clause-before_the_gate
+returns-clause-before_the_gate g c = if_err c.finish.result (λ fault before other content s h. before other content s h) c.finish.ensures.before_the_gate
+
 pub returns-clause-goes_on : goal.returns-clause-goes_on
 returns-clause-goes_on g c =
     if_err c.finish.result (λ fault before other content s same.

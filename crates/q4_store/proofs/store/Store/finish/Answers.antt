@@ -14,7 +14,7 @@ use Rattle.q4_store.specs.Device.{DeviceCall, AllMade, BrokeOff, fill_calls, swi
 use Rattle.q4_store.proofs.Runs.{made_then}
 use Rattle.q4_store.proofs.Opened.{end_within}
 use Rattle.q4_store.proofs.CopyStands.{none_copied}
-use Rattle.q4_store.proofs.Pieces.{copy_place, copy_late, copy_shut, extended_stands}
+use Rattle.q4_store.proofs.Pieces.{copy_place, copy_late, copy_shut, extended_stands, extended_moments}
 use Rattle.q4_store.proofs.Finishing.{FillSays, end_few, the_filled, fill_moments, finish_moments, settled_finished, stands_finished, columns_are}
 use Rattle.q4_store.proofs.store.Store.finish.Given as given
 use Rattle.q4_store.proofs.store.Store.finish.Goals as goal
@@ -109,6 +109,13 @@ returns-in_default-clause-any_moment g c content s r =
     let a = (goal.at.returns-in_default-clause-any_moment g c).After-truncate in
     moments_of g a content c.fill.new.disk (λ h. fill_moments g.D.Disk.told _ content (here g a content s) c.args.progress (copying g a) (room g a) (whole g a) c.args.last.now c.args.header.now (rest_here g a content r) (g.D.Disk.told c.fill.new.disk) h
     (fill_run g (goal.at.returns-in_default-clause-any_moment g c).After-fill content.committed.columns h (shut g a content s h)))
+
+pub returns-in_default-clause-before_the_gate : goal.returns-in_default-clause-before_the_gate
+returns-in_default-clause-before_the_gate g c is content s h =
+    let a = (goal.at.returns-in_default-clause-before_the_gate g c).After-truncate in
+    let b = (goal.at.returns-in_default-clause-before_the_gate g c).After-fill in
+    subst (λ (store : Stored g.row.D.Denot). IsTrue (g.D.Disk.told store.disk).honest → LeavesOnly (g.D.Disk.told store.disk) (g.D.Disk.told c.fill.new.disk) (IsPrefix content store.generation)) c.self.view_is
+    (λ honest. extended_moments g.D.Disk.told _ content (here g a content s) c.args.progress (copying g a) c.fill.new.disk (whole g a) c.fill.ensures.honest honest (fill_run g b)) h
 
 pub returns-in_default-clause-goes_on : goal.returns-in_default-clause-goes_on
 returns-in_default-clause-goes_on g c is content s r =
