@@ -5,7 +5,7 @@ ghost use Rattle.q4_store.specs.Store.{IsOver};
 const SIDE_LIMIT: u64 = 536_870_912;
 
 // What the ends of one row, in the side and in a copy of it, add at most.
-const END_SIZE: u64 = 32;
+const ROOM_FOR_ENDS: u64 = 32;
 
 /// Whether a side of this length, with so many bytes pending, has room for a record of this cost behind so many rows,
 /// and for the end of each row and of the new one. A refusal tells the length with what is pending. Each number is at
@@ -19,7 +19,7 @@ pub fn room(length: u64, pending: u64, cost: u64, live: u64) -> Result<(), u64>
     ensures full { IfErr result (λ taken. (taken ≡ length + pending) × IsOver (length + pending) cost live) }
 {
     let taken = length + pending;
-    if taken + cost + END_SIZE * (live + 1) > SIDE_LIMIT {
+    if taken + cost + ROOM_FOR_ENDS * (live + 1) > SIDE_LIMIT {
         return Err(taken);
     }
     Ok(())
