@@ -1,4 +1,4 @@
-ghost use Rattle.std.specs.Prelude.{◌≡◌, ◌≤◌, ◌<◌, ◌^◌, ℕ, All};
+ghost use Rattle.std.specs.Prelude.{◌≡◌, ◌≤◌, ◌<◌, ◌^◌, All};
 ghost use Rattle.q4_value.specs.Row.{IsValue, row_size as size_of};
 ghost use Rattle.q4_store.specs.Content.{row_added};
 ghost use Rattle.q4_store.specs.Lengths.{change_size};
@@ -104,7 +104,7 @@ fn job(rt: &impl Abort, alloc: Global, prio: i64, body: &str) -> Row
 // The size of the record of a row that was added.
 fn record_size(row: &Row, origin: Option<Origin>) -> u64
     requires { size_of row.now < 2 ^ 31 }
-    ensures size { (number : ℕ) → result ≡ change_size (row_added number row.now origin) }
+    ensures size { result ≡ change_size (row_added 0 row.now origin) }
     ensures few { result ≤ 2 ^ 32 }
 {
     match origin {
