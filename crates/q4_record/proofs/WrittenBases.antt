@@ -28,19 +28,19 @@ pub stand_append : (old : Replay) (rs ss : List Record) → AllStand old rs → 
 stand_append old [] ss a b = b
 stand_append old (r ∷ rs) ss a b = (a.0, stand_append (replayed old r) rs ss a.1 b)
 
-abbrev table_of : List Column → ℕ → List StoredRow → List marks.Mark → TableState
+abbrev pub table_of : List Column → ℕ → List StoredRow → List marks.Mark → TableState
 table_of columns next rows marks = record { columns = columns; next = next; rows = rows; marks = marks }
 
 -- the row without its owner
-abbrev plain : StoredRow → StoredRow
+abbrev pub plain : StoredRow → StoredRow
 plain r = record { number = r.number; row = r.row; owner = None }
 
 -- the rows stand behind others, and lead to a table with all of them
-record RowsStand (columns : List Column) (next limit : ℕ) (front rows : List StoredRow) : Type 0 where
-  stand : AllStand (record { stage = stage.Rows; table = table_of columns next front [] }) (map row_record rows)
-  after : ℕ
-  after_le : after ≤ limit
-  replay_is : replays (record { stage = stage.Rows; table = table_of columns next front [] }) (map row_record rows) ≡ record { stage = stage.Rows; table = table_of columns after (front ++ map plain rows) [] }
+pub record RowsStand (columns : List Column) (next limit : ℕ) (front rows : List StoredRow) : Type 0 where
+  pub stand : AllStand (record { stage = stage.Rows; table = table_of columns next front [] }) (map row_record rows)
+  pub after : ℕ
+  pub after_le : after ≤ limit
+  pub replay_is : replays (record { stage = stage.Rows; table = table_of columns next front [] }) (map row_record rows) ≡ record { stage = stage.Rows; table = table_of columns after (front ++ map plain rows) [] }
 
 row_within : (columns : List Column) (front rows : List StoredRow) (r : StoredRow) → Fits columns r.row → r.number + 1 ≤ number_limit → length (front ++ r ∷ rows) ≤ count_limit → bytes_of (front ++ r ∷ rows) ≤ bytes_limit
     → Within (table_of columns (r.number + 1) (front ++ plain r ∷ []) []) r.row
@@ -54,7 +54,7 @@ row_within columns front rows r fits number count bytes =
       size = fits.size;
     }
 
-rows_stand : (columns : List Column) (next limit low : ℕ) (front rows : List StoredRow) → All (λ r. Fits columns r.row) rows → RiseBelow low limit (numbers_of rows) → next ≤ low + 1 → next ≤ limit → limit ≤ number_limit
+pub rows_stand : (columns : List Column) (next limit low : ℕ) (front rows : List StoredRow) → All (λ r. Fits columns r.row) rows → RiseBelow low limit (numbers_of rows) → next ≤ low + 1 → next ≤ limit → limit ≤ number_limit
     → length (front ++ rows) ≤ count_limit → bytes_of (front ++ rows) ≤ bytes_limit → RowsStand columns next limit front rows
 rows_stand columns next limit low front [] fits rise from le top count bytes = record { stand = tt; after = next; after_le = le; replay_is = ap (λ rs. record { stage = stage.Rows; table = table_of columns next rs [] }) (sym (append-nil front)) }
 rows_stand columns next limit low front (r ∷ rs) fits rise from le top count bytes =
@@ -77,7 +77,7 @@ rows_stand columns next limit low front (r ∷ rs) fits rise from le top count b
       replay_is = deeper.replay_is ∙ ap (λ qs. record { stage = stage.Rows; table = table_of columns deeper.after qs [] }) (append_assoc front (plain r ∷ []) (map plain rs));
     }
 
-plain_same : (rows : List StoredRow) → All (λ r. r.owner ≡ None) rows → map plain rows ≡ rows
+pub plain_same : (rows : List StoredRow) → All (λ r. r.owner ≡ None) rows → map plain rows ≡ rows
 plain_same [] unowned = refl
 plain_same (r ∷ rs) unowned =
     let none : r.owner ≡ None = All-head (λ (q : StoredRow). q.owner ≡ None) r rs unowned in
@@ -86,11 +86,11 @@ plain_same (r ∷ rs) unowned =
 
 -- ---- marks
 
-kept : {X : Type 0} (p : X → Bool) (xs : List X) → All (λ x. p x ≡ true) xs → filter p xs ≡ xs
+pub kept : {X : Type 0} (p : X → Bool) (xs : List X) → All (λ x. p x ≡ true) xs → filter p xs ≡ xs
 kept p [] a = refl
 kept p (x ∷ xs) a = ap (λ b. cond b (x ∷ filter p xs) (filter p xs)) (All-head (λ x. p x ≡ true) x xs a) ∙ ap (λ ys. x ∷ ys) (kept p xs (All-tail (λ x. p x ≡ true) x xs a))
 
-dropped : {X : Type 0} (p : X → Bool) (xs : List X) → All (λ x. p x ≡ false) xs → filter p xs ≡ []
+pub dropped : {X : Type 0} (p : X → Bool) (xs : List X) → All (λ x. p x ≡ false) xs → filter p xs ≡ []
 dropped p [] a = refl
 dropped p (x ∷ xs) a = ap (λ b. cond b (x ∷ filter p xs) (filter p xs)) (All-head (λ x. p x ≡ false) x xs a) ∙ dropped p xs (All-tail (λ x. p x ≡ false) x xs a)
 
@@ -102,11 +102,11 @@ mark_behind front m below =
     (λ i. lesser i ++ m ∷ greater i)
 
 -- the marks so far are of lesser sources than each of these
-abbrev Below : List marks.Mark → List marks.Mark → Type 0
+abbrev pub Below : List marks.Mark → List marks.Mark → Type 0
 Below front ms = All (λ m. All (λ f. f.source < m.source) front) ms
 
 -- the stage at which marks may come
-abbrev StageBefore : Stage → List marks.Mark → Type 0
+abbrev pub StageBefore : Stage → List marks.Mark → Type 0
 StageBefore stage.Rows ms = Unit {0}
 StageBefore (stage.Marks last) ms = All (λ m. last < m.source) ms
 StageBefore stage.Whole ms = ⊥
@@ -118,7 +118,7 @@ may_mark (stage.Marks last) m ms before is = (All-head (λ (q : marks.Mark). las
 may_mark stage.Whole m ms before is = before
 may_mark stage.Batch m ms before is = before
 
-may_next : (s : Stage) (table : TableState) (number : ℕ) → StageBefore s [] → table.next ≤ number → MayNext s table number
+pub may_next : (s : Stage) (table : TableState) (number : ℕ) → StageBefore s [] → table.next ≤ number → MayNext s table number
 may_next stage.Rows table number before le = le
 may_next (stage.Marks last) table number before le = le
 may_next stage.Whole table number before le = before
@@ -132,13 +132,13 @@ below_more front m (n ∷ ns) below rise =
     (below_more front m ns (All-tail (λ (k : marks.Mark). All (λ f. f.source < k.source) front) n ns below) (All-tail (λ (k : marks.Mark). m.source < k.source) n ns rise))
 
 -- the marks stand behind others, and lead to a table with all of them
-record MarksStand (columns : List Column) (next : ℕ) (rows : List StoredRow) (s : Stage) (front ms : List marks.Mark) : Type 0 where
-  stand : AllStand (record { stage = s; table = table_of columns next rows front }) (map mark_record ms)
-  last : Stage
-  may_end : StageBefore last []
-  replay_is : replays (record { stage = s; table = table_of columns next rows front }) (map mark_record ms) ≡ record { stage = last; table = table_of columns next rows (front ++ ms) }
+pub record MarksStand (columns : List Column) (next : ℕ) (rows : List StoredRow) (s : Stage) (front ms : List marks.Mark) : Type 0 where
+  pub stand : AllStand (record { stage = s; table = table_of columns next rows front }) (map mark_record ms)
+  pub last : Stage
+  pub may_end : StageBefore last []
+  pub replay_is : replays (record { stage = s; table = table_of columns next rows front }) (map mark_record ms) ≡ record { stage = last; table = table_of columns next rows (front ++ ms) }
 
-marks_stand : (columns : List Column) (next : ℕ) (rows : List StoredRow) (s : Stage) (front ms : List marks.Mark) → passed_limit (table_of columns next rows front) [] ≡ None → All IsMark ms → SourcesRise ms → StageBefore s ms → Below front ms
+pub marks_stand : (columns : List Column) (next : ℕ) (rows : List StoredRow) (s : Stage) (front ms : List marks.Mark) → passed_limit (table_of columns next rows front) [] ≡ None → All IsMark ms → SourcesRise ms → StageBefore s ms → Below front ms
     → MarksStand columns next rows s front ms
 marks_stand columns next rows s front [] within are rise before below =
     record { stand = tt; last = s; may_end = before; replay_is = ap (λ ns. record { stage = s; table = table_of columns next rows ns }) (sym (append-nil front)) }
@@ -159,7 +159,7 @@ marks_stand columns next rows s front (m ∷ ms) within are rise before below =
       replay_is = ap (λ ns. replays (stage_of ns) (map mark_record ms)) set ∙ deeper.replay_is ∙ ap (λ ns. record { stage = deeper.last; table = table_of columns next rows ns }) (append_assoc front (m ∷ []) ms);
     }
 
-none_below : (ms : List marks.Mark) → Below [] ms
+pub none_below : (ms : List marks.Mark) → Below [] ms
 none_below [] = All-nil (λ (m : marks.Mark). All (λ (f : marks.Mark). f.source < m.source) [])
 none_below (m ∷ ms) = All-cons (λ (k : marks.Mark). All (λ (f : marks.Mark). f.source < k.source) []) m ms (All-nil (λ (f : marks.Mark). f.source < m.source)) (none_below ms)
 
@@ -168,7 +168,7 @@ pub record BaseStands (table : TableState) : Type 0 where
   pub stand : AllStand (at_base table.columns) (base_records table)
   pub replay_is : replays (at_base table.columns) (base_records table) ≡ record { stage = stage.Whole; table = table }
 
-table_within : (table : TableState) (next : ℕ) → IsValidTable table → next ≤ number_limit → (ms : List marks.Mark) → passed_limit (table_of table.columns next table.rows ms) [] ≡ None
+pub table_within : (table : TableState) (next : ℕ) → IsValidTable table → next ≤ number_limit → (ms : List marks.Mark) → passed_limit (table_of table.columns next table.rows ms) [] ≡ None
 table_within table next valid le ms = passes_none (table_of table.columns next table.rows ms) [] (record { rows = valid.count; bytes = valid.bytes; next = le; short = refl; size = omega arith })
 
 pub base_written : (table : TableState) → IsValidTable table → All (λ r. r.owner ≡ None) table.rows → BaseStands table

@@ -1,11 +1,12 @@
 -- What is written of a table is a side that stands for it.
-use Rattle.std.proofs.Common.{◌≡◌, ℕ, ◌+◌, ◌^◌, ◌<◌, ◌≤◌, List, ◌∷◌, ◌++◌, length, take, drop, refl, sym, ap, subst, ◌∙◌, arith}
+use Rattle.std.proofs.Common.{◌≡◌, ◌≢◌, ℕ, ◌+◌, ◌^◌, ◌<◌, ◌≤◌, List, ◌∷◌, ◌++◌, length, take, drop, refl, sym, ap, subst, ◌∙◌, arith}
 use Rattle.std.proofs.lemmas.List.{take_at, drop_at, drop-drop, length-append}
 use Rattle.std.proofs.lemmas.Nat.{from_be_bytes-to_be_bytes_8}
+use Rattle.q4_value.specs.declared.column.Column.{Column}
 use Rattle.q4_table.specs.TableState.{TableState}
 use Rattle.q4_record.specs.Record.{Record}
 use Rattle.q4_record.specs.Replay.{at_batches}
-use Rattle.q4_record.specs.Side.{generation_limit, base_at, told_at, generation_of, base_length_of, base_of, behind_base, batches_bytes, after_batches, Side}
+use Rattle.q4_record.specs.Side.{side_limit, generation_limit, base_at, told_at, generation_of, base_length_of, base_of, behind_base, batches_bytes, BatchesStand, after_batches, HasRoom, IsBase, Side}
 use Rattle.q4_record.specs.Written.{side_bytes, base_bytes, base_records, written, written_table, written_length, IsWritten}
 use Rattle.q4_record.proofs.WrittenBases.{base_written}
 
@@ -27,20 +28,18 @@ behind_told generation base behind fits =
 side_length : (generation : ℕ) (base behind : List ℕ) → length (side_bytes generation base behind) ≡ base_at + length base + length behind
 side_length generation base behind = omega (arith, length-append base behind)
 
-pub written_side : (table : TableState) (generation : ℕ) (batches : List (List Record)) (closing : ℕ) (ignored : List ℕ) → IsWritten table generation batches closing ignored
-    → Side table.columns (written table generation batches closing ignored) (written_table table batches) generation (written_length table batches)
-written_side table generation batches closing ignored w =
-    let base = base_bytes table in
+-- whatever base leads to the table, with batches behind it
+pub base_side : (columns : List Column) (base : List ℕ) (table : TableState) (generation : ℕ) (batches : List (List Record)) (closing : ℕ) (ignored : List ℕ) → IsBase columns base table → 1 ≤ generation → generation ≤ generation_limit → BatchesStand (at_batches table) batches → closing ≢ 1
+    → length (side_bytes generation base (batches_bytes batches ++ closing ∷ ignored)) ≤ side_limit → HasRoom (written_table table batches) (base_at + length base + length (batches_bytes batches) + 1)
+    → Side columns (side_bytes generation base (batches_bytes batches ++ closing ∷ ignored)) (written_table table batches) generation (base_at + length base + length (batches_bytes batches) + 1)
+base_side columns base table generation batches closing ignored leads positive limit stand closed few room =
     let behind = batches_bytes batches ++ closing ∷ ignored in
-    let few = w.few in
     let long = side_length generation base behind in
     let rest = length-append (batches_bytes batches) (closing ∷ ignored) in
     let fits : length base < 2 ^ 64 = omega (arith, few, long) in
-    let limit = w.limit in
     let generation_fits : generation < 2 ^ 64 = omega (arith, limit) in
     let told = generation_told generation base behind generation_fits in
     let len = length_told generation base behind fits in
-    let stands = base_written table w.valid w.unowned in
     record {
       stands = record {
         batches = batches;
@@ -51,19 +50,25 @@ written_side table generation batches closing ignored w =
           begins = record {
             is_open = record { header = omega (arith, long); gate = refl };
             few = few;
-            header = record { magic = refl; positive = subst (λ n. 1 ≤ n) (sym told) w.positive; within = omega (arith, len, long, rest) };
+            header = record { magic = refl; positive = subst (λ n. 1 ≤ n) (sym told) positive; within = omega (arith, len, long, rest) };
             generation = subst (λ n. n ≤ generation_limit) (sym told) limit;
           };
           base_table = table;
-          base = record { records = base_records table; base_is = base_told generation base behind fits; stand = stands.stand; replay_is = stands.replay_is };
+          base = record { records = leads.records; base_is = base_told generation base behind fits ∙ leads.base_is; stand = leads.stand; replay_is = leads.replay_is };
           behind = behind_told generation base behind fits;
-          stand = w.stand;
+          stand = stand;
           replay_is = refl;
         };
-        closed = w.closed;
+        closed = closed;
         table_is = refl;
         generation_is = sym told;
         len_is = ap (λ n. base_at + n + length (batches_bytes batches) + 1) (sym len);
       };
-      room = w.room;
+      room = room;
     }
+
+pub written_side : (table : TableState) (generation : ℕ) (batches : List (List Record)) (closing : ℕ) (ignored : List ℕ) → IsWritten table generation batches closing ignored
+    → Side table.columns (written table generation batches closing ignored) (written_table table batches) generation (written_length table batches)
+written_side table generation batches closing ignored w =
+    let stands = base_written table w.valid w.unowned in
+    base_side table.columns (base_bytes table) table generation batches closing ignored (record { records = base_records table; base_is = refl; stand = stands.stand; replay_is = stands.replay_is }) w.positive w.limit w.stand w.closed w.few w.room

@@ -1,5 +1,5 @@
 -- What one change more makes of a store.
-use Rattle.std.proofs.Common.{◌≡◌, ◌≢◌, ℕ, ◌+◌, ◌-◌, Bool, true, false, not, cond, eqb, List, [], ◌∷◌, ◌++◌, Option, None, Some, IsSome, All, length, refl, sym, ◌∙◌, ap, subst, arith, length-append}
+use Rattle.std.proofs.Common.{◌≡◌, ◌≢◌, ℕ, ◌+◌, ◌-◌, ◌≤◌, Bool, true, false, not, cond, eqb, List, [], ◌∷◌, ◌++◌, Option, None, Some, IsSome, All, length, refl, sym, ◌∙◌, ap, subst, arith, length-append}
 use Rattle.std.proofs.Math.Logic.{⊎_elim}
 use Rattle.std.proofs.lemmas.Bool.{cases_eq, eq-eqb, ne_eqb}
 use Rattle.std.proofs.lemmas.List.{take-append-le, flat_map_more}
@@ -20,7 +20,12 @@ use Rattle.q4_record.proofs.Changes.{added_stands, ended_stands}
 use Rattle.q4_disk.specs.Told.{Sides, Told}
 use Rattle.q4_store.specs.Reading.{Reads}
 use Rattle.q4_store.specs.Content.{Content, row_added, row_ended, table_of, with_change, IsPrefix}
-use Rattle.q4_store.specs.Store.{Stored, StandsFor, TakesRow, HasRow}
+use Rattle.q4_table.specs.Adding.{add_row}
+use Rattle.std.specs.Option.{ForSome}
+use Rattle.q4_store.specs.Copied.{compact_size}
+use Rattle.q4_store.specs.Store.{Stored, CopyStands, StandsFor, TakesRow, HasRow, ends_with, pending_length}
+use Rattle.q4_store.proofs.Weights.{compact_added, compact_removed}
+use Rattle.q4_store.proofs.Carrying.{longer, row_carried, end_carried}
 use Rattle.q4_store.proofs.Fronts.{replays_lead}
 
 stand_push : (old : Replay) (rs : List Record) (r : Record) → AllStand old rs → Stands (replays old rs) r → AllStand old (rs ++ r ∷ [])
@@ -39,11 +44,13 @@ prefix_more content change generation c p = record {
   reads = subst (λ (rs : List Record). Reads content.committed.columns c (replays (at_batches content.committed) rs).table generation) (sym (take-append-le p.count content.pending (change ∷ []) p.within)) p.reads;
 }
 
-pub appended : {D : Type 0} (told : D → Told) (store : Stored D) (content : Content) (change : Record) (records : List ℕ) (rows reserved : ℕ) → StandsFor told store content → Stands (at_batches (table_of content)) change
+pub appended : {D : Type 0} (told : D → Told) (store : Stored D) (content : Content) (change : Record) (records ends : List ℕ) (rows reserved : ℕ) → StandsFor told store content → Stands (at_batches (table_of content)) change
     → IsValidTable (replayed (at_batches (table_of content)) change).table → All (λ (r : StoredRow). r.owner ≡ None) (replayed (at_batches (table_of content)) change).table.rows
     → records ≡ store.records ++ record_bytes change → rows ≡ length (replayed (at_batches (table_of content)) change).table.rows
-    → StandsFor told (record store { records = records; rows = rows; reserved = reserved }) (with_change content change)
-appended told store content change records rows reserved s stands valid unowned records_are rows_are =
+    → compact_size (replayed (at_batches (table_of content)) change).table ≤ store.end + pending_length records
+    → ForSome store.copy (CopyStands told (record store { records = records; rows = rows; reserved = reserved; ends = ends }) (replayed (at_batches (table_of content)) change).table)
+    → StandsFor told (record store { records = records; rows = rows; reserved = reserved; ends = ends }) (with_change content change)
+appended told store content change records ends rows reserved s stands valid unowned records_are rows_are long copy =
     let more = table_more content change s.stand in
     record {
       valid = subst IsValidTable (sym more) valid;
@@ -54,6 +61,8 @@ appended told store content change records rows reserved s stands valid unowned 
       images = λ honest c left. prefix_more content change store.generation c (s.images honest c left);
       settled = s.settled;
       ready = s.ready;
+      long = subst (λ (t : TableState). compact_size t ≤ store.end + pending_length records) (sym more) long;
+      copy = λ progress is. subst (λ (t : TableState). CopyStands told (record store { records = records; rows = rows; reserved = reserved; ends = ends }) t progress) (sym more) (copy progress is);
     }
 
 -- a row that is removed was there once
@@ -87,13 +96,20 @@ row_appended told store content number row origin records reserved s t records_a
     let stands : Stands (at_batches table) (row_added number row origin) = subst (λ (n : ℕ). Stands (at_batches table) (row_added n row origin)) (sym t.is_next) (added_stands table row origin s.valid t.fits t.valid t.new) in
     let valid = valid-added table row origin s.valid t.fits t.valid (check_room table row origin t.new) in
     let result = subst (λ (n : ℕ). IsValidTable (replayed (at_batches table) (row_added n row origin)).table) (sym t.is_next) valid in
-    appended told store content (row_added number row origin) records (store.rows + 1) reserved s stands result
+    let here : records ≡ store.records ++ record_bytes (row_added table.next row origin) = records_are ∙ ap (λ (n : ℕ). store.records ++ record_bytes (row_added n row origin)) t.is_next in
+    let long : compact_size (add_row table row origin) ≤ store.end + pending_length records = omega (arith, s.long, compact_added table row origin, longer store.records records (row_added table.next row origin) here) in
+    let later : Stored _ = record store { records = records; rows = store.rows + 1; reserved = reserved } in
+    appended told store content (row_added number row origin) records store.ends (store.rows + 1) reserved s stands result
     (All-push (λ (r : StoredRow). r.owner ≡ None) table.rows (record { number = number; row = row; owner = None }) s.unowned refl) records_are (omega (arith, s.rows, length-append table.rows (record { number = number; row = row; owner = None } ∷ [])))
+    (subst (λ (n : ℕ). compact_size (replayed (at_batches table) (row_added n row origin)).table ≤ store.end + pending_length records) (sym t.is_next) long)
+    (λ progress is. subst (λ (n : ℕ). CopyStands told later (replayed (at_batches table) (row_added n row origin)).table progress) (sym t.is_next) (row_carried told store table progress (s.copy progress is) row origin records (store.rows + 1) reserved here))
 
-pub end_appended : {D : Type 0} (told : D → Told) (store : Stored D) (content : Content) (number : ℕ) (records : List ℕ) (reserved : ℕ) → StandsFor told store content → HasRow content number
-    → records ≡ store.records ++ record_bytes (row_ended number) → StandsFor told (record store { records = records; rows = store.rows - 1; reserved = reserved }) (with_change content (row_ended number))
-end_appended told store content number records reserved s there records_are =
+pub end_appended : {D : Type 0} (told : D → Told) (store : Stored D) (content : Content) (number : ℕ) (records ends : List ℕ) (reserved : ℕ) → StandsFor told store content → HasRow content number
+    → records ≡ store.records ++ record_bytes (row_ended number) → ends ≡ ends_with store.copy store.ends number → StandsFor told (record store { records = records; rows = store.rows - 1; reserved = reserved; ends = ends }) (with_change content (row_ended number))
+end_appended told store content number records ends reserved s there records_are ends_are =
     let table = table_of content in
-    let fewer = gone 0 table.next number table.rows s.valid.numbers there in
-    appended told store content (row_ended number) records (store.rows - 1) reserved s (ended_stands table number s.valid there) (valid-removed table number s.valid)
-    (All-filter (λ (r : StoredRow). not (eqb r.number number)) (λ (r : StoredRow). r.owner ≡ None) table.rows s.unowned) records_are (omega (arith, s.rows, fewer))
+    let fewer_rows = gone 0 table.next number table.rows s.valid.numbers there in
+    appended told store content (row_ended number) records ends (store.rows - 1) reserved s (ended_stands table number s.valid there) (valid-removed table number s.valid)
+    (All-filter (λ (r : StoredRow). not (eqb r.number number)) (λ (r : StoredRow). r.owner ≡ None) table.rows s.unowned) records_are (omega (arith, s.rows, fewer_rows))
+    (omega (arith, s.long, compact_removed table number, longer store.records records (row_ended number) records_are))
+    (λ progress is. end_carried told store table progress (s.copy progress is) number records ends (store.rows - 1) reserved s.valid there records_are (ends_are ∙ ap (λ o. ends_with o store.ends number) is))

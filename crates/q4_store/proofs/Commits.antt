@@ -15,6 +15,7 @@ use Rattle.q4_disk.proofs.Moments.{weaker, left_now}
 use Rattle.q4_store.specs.Reading.{HasMagic}
 use Rattle.q4_store.specs.Parts.{IsShut, IsSpare, IsReady}
 use Rattle.q4_store.specs.Commit.{sealed, EndsBehind, IsOpenBehind, MayHaveBatch, grown}
+use Rattle.q4_store.specs.Copied.{HasCopied}
 use Rattle.q4_store.specs.Content.{Content, changed, table_of, all_committed, IsPrefix}
 use Rattle.q4_store.specs.Store.{Stored, StandsFor, IsSettled, IsHeld, pending_length, length_of}
 use Rattle.std.specs.Int.{w32, to_be_bytes}
@@ -85,8 +86,8 @@ settled_reads told side table generation end s c left = record {
 -- after a commit that failed
 pub stands_open : {D : Type 0} (told : D → Told) (store : Stored D) (content : Content) (new : D) → StandsFor told store content → (told new).honest ≡ (told store.disk).honest
     → (IsTrue (told new).honest → (t : ℕ) (c : Sides) → t ≤ (told new).moment → (told new).images c → (told new).since t c) → (IsTrue (told store.disk).honest → LeavesOnly (told store.disk) (told new) (λ c. IsPrefix content store.generation c × Holds store.side store.generation c))
-    → (IsTrue (told store.disk).honest → OtherStays store.side (told store.disk) (told new)) → store.failed ≡ false → StandsFor told (record store { disk = new; failed = true }) content
-stands_open told store content new s same counts run stays whole = record {
+    → (IsTrue (told store.disk).honest → OtherStays store.side (told store.disk) (told new)) → store.failed ≡ false → (IsTrue (told store.disk).honest → on (other store.side) (told new).bytes ≡ on (other store.side) (told store.disk).bytes) → StandsFor told (record store { disk = new; failed = true }) content
+stands_open told store content new s same counts run stays whole there = record {
   valid = s.valid;
   unowned = s.unowned;
   stand = s.stand;
@@ -98,13 +99,26 @@ stands_open told store content new s same counts run stays whole = record {
       let h = sym same ∙ honest in
       ready_stays store.known store.side store.generation (told store.disk) (told new) (stays h) (settled_holds (told store.disk) store.side content.committed store.generation store.end (s.settled h whole))
       (λ c left. (left_now (told store.disk) (told new) (λ d. IsPrefix content store.generation d × Holds store.side store.generation d) (counts honest) (run h) c left).1) (s.ready h);
+  long = s.long;
+  copy = λ progress is. let c = s.copy progress is in record {
+    written = c.written;
+    waiting = c.waiting;
+    copied = c.copied;
+    first = c.first;
+    ends = c.ends;
+    at = c.at;
+    fits = c.fits;
+    shut = c.shut;
+    limit = c.limit;
+    bytes = λ honest. let h = sym same ∙ honest in subst (HasCopied (table_of content).columns c.written) (sym (there h)) (c.bytes h);
+  };
 }
 
 -- after a commit that succeeded
 pub stands_done : {D : Type 0} (told : D → Told) (store : Stored D) (content : Content) (new : D) (end : ℕ) (records : List ℕ) → StandsFor told store content → (told new).honest ≡ (told store.disk).honest
-    → (IsTrue (told store.disk).honest → IsSettled (told new) store.side (table_of content) store.generation end) → (IsTrue (told store.disk).honest → OtherStays store.side (told store.disk) (told new)) → store.failed ≡ false → records ≡ []
+    → (IsTrue (told store.disk).honest → IsSettled (told new) store.side (table_of content) store.generation end) → (IsTrue (told store.disk).honest → OtherStays store.side (told store.disk) (told new)) → store.failed ≡ false → records ≡ [] → end ≡ length_of store → (IsTrue (told store.disk).honest → on (other store.side) (told new).bytes ≡ on (other store.side) (told store.disk).bytes)
     → StandsFor told (record store { disk = new; end = end; records = records; reserved = 0; failed = false }) (all_committed content)
-stands_done told store content new end records s same settled stays whole none = record {
+stands_done told store content new end records s same settled stays whole none end_is there = record {
   valid = s.valid;
   unowned = s.unowned;
   stand = tt;
@@ -116,6 +130,19 @@ stands_done told store content new end records s same settled stays whole none =
       let h = sym same ∙ honest in
       ready_stays store.known store.side store.generation (told store.disk) (told new) (stays h) (settled_holds (told store.disk) store.side content.committed store.generation store.end (s.settled h whole))
       (settled_holds (told new) store.side (table_of content) store.generation end (settled h)) (s.ready h);
+  long = let none_waits = ap pending_length none in omega (arith, s.long, end_is, none_waits);
+  copy = λ progress is. let c = s.copy progress is in record {
+    written = c.written;
+    waiting = c.waiting;
+    copied = c.copied;
+    first = c.first;
+    ends = c.ends;
+    at = c.at;
+    fits = let none_waits = ap pending_length none in omega (arith, c.fits, end_is, none_waits);
+    shut = c.shut;
+    limit = c.limit;
+    bytes = λ honest. let h = sym same ∙ honest in subst (HasCopied (table_of content).columns c.written) (sym (there h)) (c.bytes h);
+  };
 }
 
 pub not_so : {A : Type 0} (b : Bool) → (IsTrue b ↔ A) → b ≡ false → A → ⊥

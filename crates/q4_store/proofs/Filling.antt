@@ -8,7 +8,7 @@ use Rattle.q4_disk.specs.declared.disk.Side.{Side}
 use Rattle.q4_disk.specs.Told.{Sides, Told}
 use Rattle.q4_disk.specs.Images.{on, other, put, written, Within}
 use Rattle.q4_disk.specs.Time.{OtherStays}
-use Rattle.q4_disk.specs.Laws.{on_put}
+use Rattle.q4_disk.specs.Laws.{on_put, other_put}
 use Rattle.q4_store.specs.Reading.{IsBehind}
 use Rattle.q4_store.specs.Parts.{IsShut, IsFilled, opened}
 
@@ -48,3 +48,7 @@ filled_with old new side bytes columns table generation len is stands shut only 
   stands = subst (λ (l : List ℕ). IsSide columns (opened l) table generation len) (sym is) stands;
   behind = λ c left. let from = stays.each c left in subst (IsBehind generation) (sym from.2) (behind from.0 from.1);
 }
+
+-- a write leaves what is read of the other side
+pub there_written : (side : Side) (bytes : List ℕ) (old new : Sides) → new ≡ put side bytes old → on (other side) new ≡ on (other side) old
+there_written side bytes old new is = ap (on (other side)) is ∙ other_put side bytes old

@@ -54,7 +54,7 @@ cost_length (change ∷ changes) size = some_cost (records_bytes (change ∷ cha
 
 -- ## Of a store
 
-batch_size_more : (records : List ℕ) (size : ℕ) → batch_size records size ≡ size + batch_size records 0
+pub batch_size_more : (records : List ℕ) (size : ℕ) → batch_size records size ≡ size + batch_size records 0
 batch_size_more [] size = omega arith
 batch_size_more (b ∷ bs) size = omega arith
 
@@ -64,7 +64,7 @@ store_length told store content s = ap (λ (n : ℕ). store.end + n) (ap pending
 pub store_cost : {D : Type 0} (told : D → Told) (store : Stored D) (content : Content) (size : ℕ) → StandsFor told store content → size + batch_size store.records 0 ≡ change_cost content.pending size
 store_cost told store content size s = sym (batch_size_more store.records size) ∙ ap (λ (records : List ℕ). batch_size records size) s.records ∙ cost_length content.pending size
 
-pending_more : (records more : List ℕ) → (more ≡ [] → ⊥) → pending_length (records ++ more) ≡ pending_length records + batch_size records (length more)
+pub pending_more : (records more : List ℕ) → (more ≡ [] → ⊥) → pending_length (records ++ more) ≡ pending_length records + batch_size records (length more)
 pending_more [] more some = let whole = some_wait more some in omega (arith, whole)
 pending_more (b ∷ bs) more some = let whole = length-append bs more in omega (arith, whole)
 

@@ -17,3 +17,13 @@ pub mod Apart
 pub mod Lengths
 pub mod Changes
 pub mod Runs
+pub mod Parting
+pub mod CopyRecords
+pub mod Weights
+pub mod Carrying
+pub mod CopyStands
+pub mod Taking
+pub mod Pieces
+pub mod Finishing
+pub mod MarksPut
+pub mod Gathering

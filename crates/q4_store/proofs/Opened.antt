@@ -1,5 +1,5 @@
 -- A store that was opened.
-use Rattle.std.proofs.Common.{◌≡◌, ℕ, ◌*◌, ◌^◌, ◌≤◌, List, [], ◌∷◌, length, IsTrue, sym, ap, subst, arith, length-append}
+use Rattle.std.proofs.Common.{◌≡◌, ℕ, ◌*◌, ◌^◌, ◌≤◌, List, [], ◌∷◌, length, IsTrue, None, sym, ◌∙◌, ap, subst, arith, length-append}
 use Rattle.q4_value.specs.declared.column.Column.{Column}
 use Rattle.q4_value.specs.Names.{AreColumns}
 use Rattle.q4_table.specs.TableState.{TableState}
@@ -12,9 +12,10 @@ use Rattle.q4_store.specs.Store.{Stored, StandsFor, IsSettled, IsHeld, pending_l
 use Rattle.q4_store.proofs.Fronts.{parted}
 use Rattle.q4_store.proofs.Drafts.{are_columns}
 use Rattle.q4_store.proofs.Commits.{settled_reads}
+use Rattle.q4_store.proofs.Weights.{side_long}
 
 -- a side is at least as long as up to its closing gate
-end_within : (columns : List Column) (bytes : List ℕ) (table : TableState) (generation end : ℕ) → IsSide columns bytes table generation end → (1 ≤ end) × (end ≤ length bytes)
+pub end_within : (columns : List Column) (bytes : List ℕ) (table : TableState) (generation end : ℕ) → IsSide columns bytes table generation end → (1 ≤ end) × (end ≤ length bytes)
 end_within columns bytes table generation end side =
     let p = parted columns bytes table generation end side in
     let size = ap length p.is in
@@ -29,8 +30,8 @@ generation_within columns bytes table generation end side =
 
 module _ {D : Type 0} (told : D → Told) (store : Stored D) (columns : List Column) (bytes : List ℕ) (table : TableState) (side : IsSide columns bytes table store.generation store.end)
     (settled : IsTrue (told store.disk).honest → IsSettled (told store.disk) store.side table store.generation store.end) (none : store.records ≡ []) (rows : store.rows ≡ length table.rows) where
-  pub opened_held : (memory copied : ℕ) → store.reserved ≡ 0 → 9 * store.rows ≤ memory → 9 * store.rows ≤ copied → IsHeld told store memory copied
-  opened_held memory copied reserve batch copy = record {
+  pub opened_held : (memory copied : ℕ) → store.reserved ≡ 0 → store.ends ≡ [] → 9 * store.rows ≤ memory → 9 * store.rows ≤ copied → IsHeld told store memory copied
+  opened_held memory copied reserve no_ends batch copy = record {
     kept = record {
       gate = (end_within columns bytes table store.generation store.end side).0;
       within = λ honest whole. (end_within table.columns (on store.side (told store.disk).bytes) table store.generation store.end (settled honest).stands).1;
@@ -38,13 +39,13 @@ module _ {D : Type 0} (told : D → Told) (store : Stored D) (columns : List Col
       reserve = λ some. absurd (omega (arith, some, reserve));
     };
     batch = batch;
-    copy = copy;
+    copy = let empty = ap (λ (l : List ℕ). length l) no_ends in omega (arith, copy, empty);
     reserve_batch = λ some. absurd (omega (arith, some, reserve));
     reserve_copy = λ some. absurd (omega (arith, some, reserve));
   }
 
-  pub opened_stands : AreColumns columns → (IsTrue (told store.disk).honest → Within (told store.disk).images (IsReady store.known (other store.side))) → StandsFor told store (record { committed = table; pending = [] })
-  opened_stands are ready =
+  pub opened_stands : AreColumns columns → store.copy ≡ None → (IsTrue (told store.disk).honest → Within (told store.disk).images (IsReady store.known (other store.side))) → StandsFor told store (record { committed = table; pending = [] })
+  opened_stands are no_copy ready =
       let sound = sound_side columns bytes table store.generation store.end (are_columns columns are) side in
       record {
         valid = sound.valid;
@@ -55,4 +56,6 @@ module _ {D : Type 0} (told : D → Told) (store : Stored D) (columns : List Col
         images = λ honest c left. settled_reads (told store.disk) store.side table store.generation store.end (settled honest) c left;
         settled = λ honest whole. settled honest;
         ready = ready;
+        long = let length_is = ap pending_length none in omega (arith, side_long columns bytes table store.generation store.end side, length_is);
+        copy = λ progress is. let wrong = sym no_copy ∙ is in absurd (cc wrong);
       }

@@ -1,5 +1,5 @@
 -- What a store stands for: a table, and the changes of it that wait for a commit.
-use Rattle.std.specs.Prelude.{◌≤◌, ℕ, List, [], ◌∷◌, ◌++◌, Option, take, length}
+use Rattle.std.specs.Prelude.{◌≤◌, ◌+◌, ◌⊎◌, ℕ, List, [], ◌∷◌, ◌++◌, Option, take, length}
 use Rattle.q4_value.specs.declared.row.Value.{Value}
 use Rattle.q4_table.specs.declared.origin.Origin.{Origin}
 use Rattle.q4_table.specs.TableState.{TableState}
@@ -44,3 +44,7 @@ pub record IsPrefix (content : Content) (generation : ℕ) (sides : Sides) : Typ
   pub count : ℕ
   pub within : count ≤ length content.pending
   pub reads : Reads content.committed.columns sides (table_with content count) generation
+
+-- Or it gives the whole table, with a generation greater by one: a copy whose gate is open.
+abbrev pub IsPrefixOrNew : Content → ℕ → Sides → Type 0
+IsPrefixOrNew content generation sides = IsPrefix content generation sides ⊎ Reads content.committed.columns sides (table_of content) (generation + 1)

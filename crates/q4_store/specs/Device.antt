@@ -79,6 +79,11 @@ blank_calls side = Cut side 1 ∷ Write side 1 (replicate 20 0) ∷ []
 abbrev pub prepare_calls : Side → Bool → List DeviceCall
 prepare_calls side known = close_calls side known ++ blank_calls side
 
+-- a piece of a copy: one write, or none where there is nothing to write
+abbrev pub extend_calls : Side → ℕ → List ℕ → List DeviceCall
+extend_calls side at [] = []
+extend_calls side at (b ∷ bs) = Write side at (b ∷ bs) ∷ []
+
 -- The second: what is left of the table, its header, and a sync.
 abbrev pub fill_calls : Side → ℕ → List ℕ → List ℕ → List DeviceCall
 fill_calls side at last header = Write side at last ∷ Write side 1 header ∷ Sync side ∷ []

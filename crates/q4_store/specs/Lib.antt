@@ -1,6 +1,7 @@
 pub mod Reading
 pub mod Parts
 pub mod Commit
+pub mod Copied
 pub mod Content
 pub mod Lengths
 pub mod Store

@@ -1,5 +1,5 @@
 -- What contracts see of a store, and what it stands for.
-use Rattle.std.specs.Prelude.{◌≡◌, ◌<◌, ◌≤◌, ◌+◌, ◌*◌, ℕ, Bool, false, List, [], ◌∷◌, Option, None, All, IsTrue, length}
+use Rattle.std.specs.Prelude.{◌≡◌, ◌==◌, ◌<◌, ◌≤◌, ◌+◌, ◌-◌, ◌*◌, ℕ, Bool, true, false, List, [], ◌∷◌, ◌++◌, Option, None, Some, All, IsTrue, length, nat_lt, sum_by, if◌then◌else◌}
 use Rattle.std.specs.Option.{ForSome}
 use Rattle.q4_value.specs.declared.row.Value.{Value}
 use Rattle.q4_value.specs.Row.{Fits}
@@ -9,17 +9,21 @@ use Rattle.q4_table.specs.Adding.{IsOrigin, check_of}
 use Rattle.q4_table.specs.Rows.{IsThere}
 use Rattle.q4_table.specs.TableState.{TableState}
 use Rattle.q4_table.specs.Valid.{IsValidTable}
-use Rattle.q4_record.specs.Record.{records_bytes}
+use Rattle.q4_record.specs.Record.{Record, record_bytes, records_bytes}
 use Rattle.q4_record.specs.Replay.{at_batches, AllStand}
-use Rattle.q4_record.specs.Side.{side_limit, Side as IsSide}
+use Rattle.q4_record.specs.Schema.{schema_bytes}
+use Rattle.q4_record.specs.Side.{side_limit, generation_limit, base_at, Side as IsSide}
 use Rattle.q4_disk.specs.declared.disk.Side.{Side}
 use Rattle.q4_disk.specs.Told.{Told}
 use Rattle.q4_disk.specs.Images.{on, other, size, Within}
 use Rattle.q4_store.specs.declared.fault.AppendFault.{AppendFault}
 use Rattle.q4_store.specs.declared.fault.AppendFault.TheVariants as fault
+use Rattle.q4_store.specs.declared.copying.Progress.{Progress}
+use Rattle.q4_store.specs.Copied.{IsCopied, rows_from, row_cost, rest_records, piece_bytes, copy_length, compact_size, copy_bytes, HasCopied}
 use Rattle.q4_store.specs.Reading.{IsBehind}
 use Rattle.q4_store.specs.Parts.{IsReady}
-use Rattle.q4_store.specs.Content.{Content, table_of, IsPrefix}
+use Rattle.q4_store.specs.Looking.{header_bytes}
+use Rattle.q4_store.specs.Content.{Content, table_of, row_ended, IsPrefix}
 
 pub record Stored (D : Type 0) : Type 0 where
   pub disk : D
@@ -37,6 +41,9 @@ pub record Stored (D : Type 0) : Type 0 where
   pub known : Bool
   -- whether a commit failed
   pub failed : Bool
+  -- how far a copy has come, where one is under way, and the bytes of the ends that wait for it
+  pub copy : Option Progress
+  pub ends : List ℕ
 
 -- what records add to a side: themselves, and where none waits yet a gate and their length in 4 bytes
 abbrev pub batch_size : List ℕ → ℕ → ℕ
@@ -51,6 +58,11 @@ pending_length (b ∷ bs) = 5 + length (b ∷ bs)
 abbrev pub length_of : {D : Type 0} → Stored D → ℕ
 length_of store = store.end + pending_length store.records
 
+-- the ends that wait for a copy, with one row's that was copied
+abbrev pub ends_with : Option Progress → List ℕ → ℕ → List ℕ
+ends_with None ends number = ends
+ends_with (Some progress) ends number = if nat_lt number progress.cursor then ends ++ record_bytes (row_ended number) else ends
+
 -- a record of this size more, and 32 bytes for each row and one more, pass the limit of a side
 abbrev pub IsOver : ℕ → ℕ → ℕ → Type 0
 IsOver length cost live = side_limit < length + cost + 32 * (live + 1)
@@ -63,6 +75,22 @@ pub record IsSettled (told : Told) (side : Side) (table : TableState) (generatio
   pub stands : IsSide table.columns (on side told.bytes) table generation end
   pub only : Within told.images (λ c. on side c ≡ on side told.bytes)
   pub behind : Within told.images (λ c. IsBehind generation (on (other side) c))
+
+-- A copy is under way, and has come so far: what it has and what waits for it replay to exactly the rows below its cursor.
+pub record CopyStands {D : Type 0} (told : D → Told) (store : Stored D) (table : TableState) (progress : Progress) : Type 0 where
+  pub written : List Record
+  pub waiting : List Record
+  pub copied : IsCopied table progress.cursor (written ++ waiting)
+  -- none waits before the first is written
+  pub first : written ≡ [] → waiting ≡ []
+  pub ends : store.ends ≡ records_bytes waiting
+  pub at : progress.at ≡ base_at + length (copy_bytes table.columns written)
+  -- With the rest it will be no longer than the current side with what is pending.
+  pub fits : copy_length progress.cursor table (written ++ waiting) ≤ length_of store
+  pub shut : store.known ≡ true
+  pub limit : store.generation < generation_limit
+  -- What it has stands on the other side, as it is read.
+  pub bytes : IsTrue (told store.disk).honest → HasCopied table.columns written (on (other store.side) (told store.disk).bytes)
 
 -- The store stands for this content.
 pub record StandsFor {D : Type 0} (told : D → Told) (store : Stored D) (content : Content) : Type 0 where
@@ -78,6 +106,19 @@ pub record StandsFor {D : Type 0} (told : D → Told) (store : Stored D) (conten
       → IsSettled (told store.disk) store.side content.committed store.generation store.end
   -- The other side's gate is there and closed where that is known, and else that side counts for nothing with any gate.
   pub ready : IsTrue (told store.disk).honest → Within (told store.disk).images (IsReady store.known (other store.side))
+  -- A copy would be no longer than the current side with what is pending.
+  pub long : compact_size (table_of content) ≤ length_of store
+  pub copy : ForSome store.copy (CopyStands told store (table_of content))
+
+-- What is left of the copy, with a closed gate, and the header of its side.
+pub record IsRest {D : Type 0} (store : Stored D) (progress : Progress) (content : Content) (last header : List ℕ) : Type 0 where
+  pub last_is : last ≡ piece_bytes (progress.at == base_at) (table_of content).columns store.ends (rest_records progress.cursor (table_of content)) ++ 0 ∷ []
+  pub header_is : header ≡ header_bytes (store.generation + 1) (progress.at + length last - (base_at + 1))
+
+-- How long the side will be once the copy is finished: what it has and what waits, the schema where it has none yet, and the rest.
+abbrev pub finished_length : {D : Type 0} → Stored D → Progress → TableState → ℕ
+finished_length store progress table =
+    progress.at + length (if progress.at == base_at then schema_bytes table.columns else []) + length store.ends + sum_by row_cost (rows_from progress.cursor table.rows) + 10 * length table.marks + 10
 
 -- What always holds: the place of an honest disk's closing gate is there, and there is room for the end of each row.
 pub record IsKept {D : Type 0} (told : D → Told) (store : Stored D) : Type 0 where
@@ -90,9 +131,9 @@ pub record IsKept {D : Type 0} (told : D → Told) (store : Stored D) : Type 0 w
 pub record IsHeld {D : Type 0} (told : D → Told) (store : Stored D) (memory copy_memory : ℕ) : Type 0 where
   pub kept : IsKept told store
   pub batch : 9 * store.rows ≤ memory
-  pub copy : 9 * store.rows ≤ copy_memory
+  pub copy : length store.ends + 9 * store.rows ≤ copy_memory
   pub reserve_batch : 0 < store.reserved → store.reserved + 9 * (store.rows + 1) ≤ memory
-  pub reserve_copy : 0 < store.reserved → 9 * (store.rows + 1) ≤ copy_memory
+  pub reserve_copy : 0 < store.reserved → length store.ends + 9 * (store.rows + 1) ≤ copy_memory
 
 -- The table with all changes adds this row as this number.
 pub record TakesRow (content : Content) (number : ℕ) (row : List Value) (origin : Option Origin) : Type 0 where

@@ -1,6 +1,6 @@
 ghost use Rattle.std.specs.Prelude.{◌≡◌, ◌+◌, ◌-◌, ◌≤◌, ℕ, List, [], ◌∷◌, IsTrue, OnOk, length};
 ghost use Rattle.q4_disk.specs.Told.{Sides, Told};
-ghost use Rattle.q4_disk.specs.Images.{on, size, written, Within};
+ghost use Rattle.q4_disk.specs.Images.{on, other, size, written, Within};
 ghost use Rattle.q4_disk.specs.Time.{LeavesOnly, OtherStays};
 ghost use Rattle.q4_disk.specs.Calls.{CountsFault};
 ghost use Rattle.q4_store.specs.Commit.{EndsBehind, IsOpenBehind, MayHaveBatch, grown};
@@ -30,6 +30,7 @@ pub(crate) fn commit_batch<D: Disk>(
     ensures only { OnOk result (IsTrue (D.told disk.old).honest → Within (D.told disk.new).images (λ c. on side c ≡ on side (D.told disk.new).bytes)) }
     ensures long { OnOk result (IsTrue (D.told disk.old).honest → end + length batch.now ≤ size side (D.told disk.new).bytes) }
     ensures other { IsTrue (D.told disk.old).honest → OtherStays side (D.told disk.old) (D.told disk.new) }
+    ensures there { IsTrue (D.told disk.old).honest → on (other side) (D.told disk.new).bytes ≡ on (other side) (D.told disk.old).bytes }
     ensures device { Makes D.told (commit_calls side end batch.now) result disk.old disk.new }
     ensures calls { (D.told disk.new).calls ≤ (D.told disk.old).calls + 4 }
     ensures writes { (D.told disk.new).writes ≤ (D.told disk.old).writes + 2 }

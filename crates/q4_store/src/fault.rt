@@ -40,3 +40,14 @@ pub enum AppendFault {
     /// Memory was wanted and could not be had.
     Memory,
 }
+
+/// Why a copy is no more.
+#[derive(Clone, Copy, Debug, PartialEq, Eq)]
+pub enum CopyFault {
+    /// The disk failed before the gate of the copy was written. The current side goes on.
+    Abandoned,
+    /// The disk failed as the gate of the copy was opened: a crash leaves the one side or the other.
+    Unsure,
+    /// Memory was wanted and could not be had.
+    Memory,
+}

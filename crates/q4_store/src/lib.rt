@@ -3,6 +3,7 @@
 
 mod batch;
 mod committing;
+mod copying;
 mod creating;
 mod fault;
 mod head;
@@ -14,7 +15,7 @@ mod parts;
 mod spelling;
 mod store;
 
-pub use fault::{AppendFault, OpenFault};
+pub use fault::{AppendFault, CopyFault, OpenFault};
 pub use laws::{content_laws, length_laws, opening_laws};
 pub use limit::room;
 pub use store::Store;

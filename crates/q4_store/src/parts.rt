@@ -1,7 +1,7 @@
 // The parts in which a table is written onto the side that isn't current, of at most four device calls each: prepare,
 // fill and switch.
 
-ghost use Rattle.std.specs.Prelude.{◌≡◌, ◌+◌, ◌≤◌, ◌⊎◌, ℕ, true, false, List, [], ◌∷◌, IsTrue, OnOk, OnErr, length};
+ghost use Rattle.std.specs.Prelude.{◌≡◌, ◌+◌, ◌++◌, ◌≤◌, ◌⊎◌, ℕ, true, false, List, [], ◌∷◌, IsTrue, OnOk, OnErr, length};
 ghost use Rattle.q4_value.specs.declared.column.Column.{Column};
 ghost use Rattle.q4_table.specs.TableState.{TableState};
 ghost use Rattle.q4_record.specs.Side.{Side as IsSide};
@@ -11,7 +11,8 @@ ghost use Rattle.q4_disk.specs.Time.{LeavesOnly, OtherStays};
 ghost use Rattle.q4_disk.specs.Calls.{CountsFault};
 ghost use Rattle.q4_store.specs.Reading.{Reads, ReadsAs, IsBehind};
 ghost use Rattle.q4_store.specs.Parts.{IsShut, IsBlank, IsSpare, IsReady, IsFilled, opened};
-ghost use Rattle.q4_store.specs.Device.{Makes, BrokeOff, close_calls, blank_calls, prepare_calls, fill_calls, switch_calls};
+ghost use Rattle.q4_store.specs.Device.DeviceCall.{Write};
+ghost use Rattle.q4_store.specs.Device.{Makes, BrokeOff, extend_calls, close_calls, blank_calls, prepare_calls, fill_calls, switch_calls};
 
 use q4_disk::{Disk, DiskFailed, Side};
 
@@ -82,6 +83,46 @@ pub(crate) fn prepare<D: Disk>(disk: &mut D, side: Side, known: &mut bool) -> Re
     *known = true;
     blank(disk, side)?;
     Ok(())
+}
+
+/// Writes more of a table behind what a side has, whose gate is closed. Nothing is synced, and the gate stays closed,
+/// whether it fails or not.
+pub(crate) fn extend<D: Disk>(disk: &mut D, side: Side, at: u64, more: &[u8]) -> Result<(), DiskFailed>
+    requires behind { 1 ≤ at }
+    requires place { IsTrue (D.told disk.old).honest → at ≤ size side (D.told disk.old).bytes }
+    ensures honest { (D.told disk.new).honest ≡ (D.told disk.old).honest }
+    ensures faults { CountsFault result (D.told disk.old).faults (D.told disk.new).faults }
+    // At each moment inside it each image reads as one that there was.
+    ensures any_moment { (columns : List Column) → IsTrue (D.told disk.old).honest → Within (D.told disk.old).images (λ c. IsShut (on side c))
+        → LeavesOnly (D.told disk.old) (D.told disk.new) (ReadsAs columns (D.told disk.old).images) }
+    ensures shut { IsTrue (D.told disk.old).honest → Within (D.told disk.old).images (λ c. IsShut (on side c))
+        → Within (D.told disk.new).images (λ c. IsShut (on side c)) }
+    ensures bytes { OnOk result (IsTrue (D.told disk.old).honest → on side (D.told disk.new).bytes ≡ written (on side (D.told disk.old).bytes) at more.now) }
+    ensures other { IsTrue (D.told disk.old).honest → OtherStays side (D.told disk.old) (D.told disk.new) }
+    ensures device { Makes D.told (Write side at more.now ∷ []) result disk.old disk.new }
+{
+    disk.write(side, at, more)?;
+    Ok(())
+}
+
+/// The same, without a call where there is nothing to write.
+pub(crate) fn extend_by<D: Disk>(disk: &mut D, side: Side, at: u64, more: &[u8]) -> Result<(), DiskFailed>
+    requires behind { 1 ≤ at }
+    requires place { IsTrue (D.told disk.old).honest → at ≡ size side (D.told disk.old).bytes }
+    ensures honest { (D.told disk.new).honest ≡ (D.told disk.old).honest }
+    ensures faults { CountsFault result (D.told disk.old).faults (D.told disk.new).faults }
+    ensures any_moment { (columns : List Column) → IsTrue (D.told disk.old).honest → Within (D.told disk.old).images (λ c. IsShut (on side c))
+        → LeavesOnly (D.told disk.old) (D.told disk.new) (ReadsAs columns (D.told disk.old).images) }
+    ensures shut { IsTrue (D.told disk.old).honest → Within (D.told disk.old).images (λ c. IsShut (on side c))
+        → Within (D.told disk.new).images (λ c. IsShut (on side c)) }
+    ensures bytes { OnOk result (IsTrue (D.told disk.old).honest → on side (D.told disk.new).bytes ≡ on side (D.told disk.old).bytes ++ more.now) }
+    ensures other { IsTrue (D.told disk.old).honest → OtherStays side (D.told disk.old) (D.told disk.new) }
+    ensures device { Makes D.told (extend_calls side at more.now) result disk.old disk.new }
+{
+    if more.is_empty() {
+        return Ok(());
+    }
+    extend(disk, side, at, more)
 }
 
 /// Writes what is left of a table and the closing gate, and then the header, behind a gate that is closed, and syncs.

@@ -1,27 +1,33 @@
-ghost use Rattle.std.specs.Prelude.{◌≡◌, ◌≢◌, ◌+◌, ◌-◌, ◌*◌, ◌≤◌, ◌<◌, ◌^◌, ◌++◌, ◌↔◌, ℕ, Bool, true, false, None, List, [], ◌∷◌, All, IsTrue, IsOk, IsErr, IfOk, IfErr, OnOk, OnErr, length, vec_capacity};
+ghost use Rattle.std.specs.Prelude.{◌≡◌, ◌≢◌, ◌+◌, ◌-◌, ◌*◌, ◌≤◌, ◌<◌, ◌^◌, ◌++◌, ◌↔◌, ℕ, Bool, true, false, None, Some, List, [], ◌∷◌, All, IsTrue, IsSome, IsOk, IsErr, IfOk, IfErr, OnOk, OnErr, length, vec_capacity};
+ghost use Rattle.std.specs.Option.{option_map};
 ghost use Rattle.q4_value.specs.Names.{AreColumns};
 ghost use Rattle.q4_value.specs.Row.{IsValue};
 ghost use Rattle.q4_record.specs.Record.{record_bytes};
-ghost use Rattle.q4_record.specs.Side.{side_limit};
+ghost use Rattle.q4_record.specs.Side.{side_limit, base_at, Side as IsSide};
 ghost use Rattle.q4_disk.specs.Told.{Sides, Told};
-ghost use Rattle.q4_disk.specs.Images.{on, other, written};
+ghost use Rattle.q4_disk.specs.Images.{on, other, written, Within};
 ghost use Rattle.q4_disk.specs.Time.{LeavesOnly};
-ghost use Rattle.q4_disk.specs.Calls.{bump};
+ghost use Rattle.q4_disk.specs.Calls.{bump, CountsFault};
 ghost use Rattle.q4_store.specs.Reading.{Reads, ReadsAs};
-ghost use Rattle.q4_store.specs.Parts.{IsShut};
+ghost use Rattle.q4_store.specs.Parts.{IsShut, opened};
 ghost use Rattle.q4_store.specs.Looking.{OnlyReads, HasOpen};
 ghost use Rattle.q4_store.specs.Opening.{IsChosen, OpenFails, CountsOpen};
 ghost use Rattle.q4_store.specs.Commit.{sealed};
-ghost use Rattle.q4_store.specs.Device.{Makes, HasOpened, HasStopped, commit_calls};
-ghost use Rattle.q4_store.specs.Content.{Content, row_added, row_ended, with_change, all_committed, IsPrefix};
+ghost use Rattle.q4_store.specs.Device.{Makes, AllMade, BrokeOff, HasOpened, HasStopped, commit_calls, prepare_calls};
+ghost use Rattle.q4_store.specs.Content.{Content, row_added, row_ended, table_of, with_change, all_committed, IsPrefix, IsPrefixOrNew};
+ghost use Rattle.q4_record.specs.Schema.{IsSchema};
+ghost use Rattle.q4_store.specs.Copied.{cursor_after, taken, rows_from};
+ghost use Rattle.q4_store.specs.declared.copying.Progress.{Progress as HowFar};
 ghost use Rattle.q4_store.specs.Lengths.{change_size, waiting_size, change_cost};
-ghost use Rattle.q4_store.specs.Store.{StandsFor, TakesRow, HasRow, IsOver, IsRefused, length_of, cost_of, pending_length, batch_size};
+ghost use Rattle.q4_store.specs.Store.{StandsFor, IsRest, finished_length, ends_with, TakesRow, HasRow, IsOver, IsRefused, length_of, cost_of, pending_length, batch_size};
 
 use crate::batch::Batch;
 use crate::committing::commit_batch;
-use crate::fault::{AppendFault, OpenFault};
+use crate::copying::{Progress, gather, gather_rest, header_of, put_waiting};
+use crate::fault::{AppendFault, CopyFault, OpenFault};
 use crate::limit::room;
 use crate::opening::find;
+use crate::parts::{extend_by, fill, prepare, switch};
 use q4_def::TableDef;
 use q4_disk::{Disk, DiskFailed, Side};
 use q4_table::{Origin, Table};
@@ -31,6 +37,9 @@ use std::marker::Model;
 
 // What a batch has besides its records: a gate and their length.
 const BATCH_SIZE: u64 = 5;
+
+// Where the base begins.
+const BASE_AT: u64 = 21;
 
 // The size of the record of a row's end.
 const END_SIZE: usize = 9;
@@ -53,6 +62,9 @@ pub struct Store<D: Disk> {
     reserved: u64,
     known: bool,
     failed: bool,
+    copy: Option<Progress>,
+    // what pieces take their memory from
+    alloc: Global,
 }
 
 impl<D: Disk> Model for Store<D> {
@@ -61,9 +73,9 @@ impl<D: Disk> Model for Store<D> {
 
     ghost Value = { Stored D };
 
-    ghost view = { λ s. record { disk = s.disk; side = s.side; end = s.end; generation = s.generation; records = s.batch.records; rows = s.rows; reserved = s.reserved; known = s.known; failed = s.failed } };
+    ghost view = { λ s. record { disk = s.disk; side = s.side; end = s.end; generation = s.generation; records = s.batch.records; rows = s.rows; reserved = s.reserved; known = s.known; failed = s.failed; copy = s.copy; ends = s.ends.items } };
 
-    ghost invariant = { λ s. IsHeld D.told (record { disk = s.disk; side = s.side; end = s.end; generation = s.generation; records = s.batch.records; rows = s.rows; reserved = s.reserved; known = s.known; failed = s.failed }) s.batch.room (vec_capacity s.ends) };
+    ghost invariant = { λ s. IsHeld D.told (record { disk = s.disk; side = s.side; end = s.end; generation = s.generation; records = s.batch.records; rows = s.rows; reserved = s.reserved; known = s.known; failed = s.failed; copy = s.copy; ends = s.ends.items }) s.batch.room (vec_capacity s.ends) };
 }
 
 impl<D: Disk> Store<D> {
@@ -79,7 +91,7 @@ impl<D: Disk> Store<D> {
         ensures stands { IfOk result (λ opened. StandsFor D.told opened.0 (record { committed = opened.1; pending = [] })) }
         // Whether the gate of the other side is there and closed is known exactly.
         ensures known { IfOk result (λ opened. IsTrue (D.told disk).honest → (opened.0.known ≡ true) ↔ IsShut (on (other opened.0.side) (D.told disk).bytes)) }
-        ensures fresh { IfOk result (λ opened. (opened.0.failed ≡ false) × (opened.0.records ≡ []) × (opened.0.reserved ≡ 0) × (opened.1.columns ≡ def.now.columns)) }
+        ensures fresh { IfOk result (λ opened. (opened.0.failed ≡ false) × (opened.0.records ≡ []) × (opened.0.reserved ≡ 0) × (opened.0.copy ≡ None) × (opened.1.columns ≡ def.now.columns)) }
         // Whatever the disk tells.
         ensures generation { IfOk result (λ opened. (1 ≤ opened.0.generation) × (opened.0.generation ≤ 2 ^ 62)) }
         // At each moment inside it each image reads as one that there was.
@@ -121,6 +133,8 @@ impl<D: Disk> Store<D> {
             reserved: 0,
             known: found.known,
             failed: false,
+            copy: None,
+            alloc,
         };
         Ok((store, found.table))
     }
@@ -138,6 +152,7 @@ fn hold(alloc: Global, rows: u32) -> Result<Memory, NoMemory>
     ensures records { IfOk result (λ memory. memory.batch.records ≡ []) }
     ensures batch { IfOk result (λ memory. 9 * rows ≤ memory.batch.room) }
     ensures ends { IfOk result (λ memory. 9 * rows ≤ vec_capacity memory.ends) }
+    ensures none { IfOk result (λ memory. memory.ends.items ≡ []) }
 {
     let size = END_SIZE * rows as usize;
     let batch = Batch::new(alloc, size)?;
@@ -176,9 +191,9 @@ impl<D: Disk> Store<D> {
 
     /// How far a copy has come, where one is under way.
     pub fn copying(&self) -> Option<u64>
-        ensures { result ≡ None }
+        ensures { result ≡ option_map (λ progress. progress.cursor) self.now.copy }
     {
-        None
+        self.copy.map(|progress| progress.cursor)
     }
 
     #[cfg(test)]
@@ -259,13 +274,14 @@ impl<D: Disk> Store<D> {
         requires { 1 ≤ self.old.rows }
         ensures stands { (content : Content) → StandsFor D.told self.old content → HasRow content number
             → StandsFor D.told self.new (with_change content (row_ended number)) }
-        ensures change { self.new ≡ record self.old { records = self.old.records ++ record_bytes (row_ended number); rows = self.old.rows - 1 } }
+        ensures change { self.new ≡ record self.old { records = self.old.records ++ record_bytes (row_ended number); rows = self.old.rows - 1; ends = ends_with self.old.copy self.old.ends number } }
         ensures length { length_of self.new ≡ length_of self.old + cost_of self.old 9 }
         // Told by the changes that wait.
         ensures longer { (content : Content) → StandsFor D.told self.old content
             → length_of self.new ≡ length_of self.old + change_cost content.pending (change_size (row_ended number)) }
     {
         self.batch.put_end(number);
+        put_waiting(&mut self.ends, self.copy, number);
         self.rows -= 1;
     }
 }
@@ -317,6 +333,157 @@ impl<D: Disk> Store<D> {
             }
             Err(DiskFailed) => Err(DiskFailed),
         }
+    }
+}
+
+// Copy.
+impl<D: Disk> Store<D> {
+    /// Begins a copy of the table on the other side.
+    pub fn compact_begin(&mut self) -> Result<(), CopyFault>
+        requires idle { self.old.copy ≡ None }
+        requires whole { self.old.failed ≡ false }
+        requires limit { self.old.generation < 2 ^ 62 }
+        requires content { (content : Content) × StandsFor D.told self.old content }
+        ensures any_moment { (content : Content) → StandsFor D.told self.old content → IsTrue (D.told self.old.disk).honest
+            → LeavesOnly (D.told self.old.disk) (D.told self.new.disk) (IsPrefix content self.old.generation) }
+        ensures stands { (content : Content) → StandsFor D.told self.old content → StandsFor D.told self.new content }
+        ensures begun { OnOk result (self.new ≡ record self.old { disk = self.new.disk; known = true; copy = Some (record { cursor = 1; at = base_at }); ends = [] }) }
+        ensures abandoned { IfErr result (λ fault. (fault ≡ CopyFault.Abandoned) × (self.new ≡ record self.old { disk = self.new.disk; known = self.new.known; ends = [] })) }
+        ensures honest { (D.told self.new.disk).honest ≡ (D.told self.old.disk).honest }
+        ensures faults { CountsFault result (D.told self.old.disk).faults (D.told self.new.disk).faults }
+        ensures device { OnOk result (AllMade D.told (prepare_calls (other self.old.side) self.old.known) self.old.disk self.new.disk) }
+        ensures device_err { OnErr result (BrokeOff D.told (prepare_calls (other self.old.side) self.old.known) self.old.disk self.new.disk) }
+    {
+        self.ends.truncate(0);
+        match prepare(&mut self.disk, other_of(self.side), &mut self.known) {
+            Ok(()) => {
+                self.copy = Some(Progress {
+                    cursor: 1,
+                    at: BASE_AT,
+                });
+                Ok(())
+            }
+            Err(DiskFailed) => Err(CopyFault::Abandoned),
+        }
+    }
+
+    /// Copies the next rows from the cursor on, at most so many, by one write behind what the copy has. It tells
+    /// whether no row is left.
+    pub fn compact_piece(&mut self, table: &Table, most: u32) -> Result<bool, CopyFault>
+        requires copying { IsSome self.old.copy }
+        requires whole { self.old.failed ≡ false }
+        requires content { (content : Content) × StandsFor D.told self.old content × (table_of content ≡ table.now) }
+        requires schema { IsSchema table.now.columns }
+        requires most { 1 ≤ most }
+        ensures any_moment { (content : Content) → StandsFor D.told self.old content → IsTrue (D.told self.old.disk).honest
+            → LeavesOnly (D.told self.old.disk) (D.told self.new.disk) (IsPrefix content self.old.generation) }
+        // Whether it fails or not the store stands for the same content, and where it succeeds the copy has come so far.
+        ensures stands { (content : Content) → StandsFor D.told self.old content → table_of content ≡ table.now → StandsFor D.told self.new content }
+        ensures copied { OnOk result (option_map (λ p. p.cursor) self.new.copy ≡ option_map (λ p. cursor_after p.cursor (taken most p.cursor table.now)) self.old.copy) }
+        // Whether no row is left then.
+        ensures done { IfOk result (λ done. (progress : HowFar) → self.old.copy ≡ Some progress → (done ≡ true) ↔ (rows_from (cursor_after progress.cursor (taken most progress.cursor table.now)) table.now.rows ≡ [])) }
+        ensures dropped { OnErr result (self.new.copy ≡ None) }
+        ensures kept { self.new ≡ record self.old { disk = self.new.disk; copy = self.new.copy; ends = [] } }
+        ensures honest { (D.told self.new.disk).honest ≡ (D.told self.old.disk).honest }
+    {
+        let Some(progress) = self.copy else {
+            unreachable!()
+        };
+        self.copy = None;
+        let gathered = gather(self.alloc, table, progress, most, &self.ends);
+        self.ends.truncate(0);
+        let Ok(piece) = gathered else {
+            return Err(CopyFault::Memory);
+        };
+        let more = piece.bytes.as_slice();
+        let Ok(()) = extend_by(&mut self.disk, other_of(self.side), progress.at, more) else {
+            return Err(CopyFault::Abandoned);
+        };
+        self.copy = Some(Progress {
+            cursor: piece.cursor,
+            at: progress.at + more.len() as u64,
+        });
+        Ok(table.live_from(piece.cursor).is_none())
+    }
+
+    /// Copies what is left, opens the copy's gate, and goes on with its side. It gives the new generation.
+    pub fn compact_finish(&mut self, table: &Table) -> Result<u64, CopyFault>
+        requires copying { IsSome self.old.copy }
+        requires whole { self.old.failed ≡ false }
+        requires content { (content : Content) × StandsFor D.told self.old content × (table_of content ≡ table.now) }
+        requires schema { IsSchema table.now.columns }
+        ensures any_moment { (content : Content) → StandsFor D.told self.old content → table_of content ≡ table.now → IsTrue (D.told self.old.disk).honest
+            → LeavesOnly (D.told self.old.disk) (D.told self.new.disk) (IsPrefixOrNew content self.old.generation) }
+        // The new side stands for the table as it is, and nothing waits.
+        ensures stands { OnOk result ((content : Content) → StandsFor D.told self.old content → table_of content ≡ table.now → StandsFor D.told self.new (all_committed content)) }
+        ensures generation { IfOk result (λ generation. (generation ≡ self.old.generation + 1) × (self.new.generation ≡ generation) × (self.new.side ≡ other self.old.side) × (self.new.records ≡ []) × (self.new.copy ≡ None)) }
+        ensures length { OnOk result (length_of self.new ≤ length_of self.old) }
+        ensures exact { OnOk result ((progress : HowFar) → self.old.copy ≡ Some progress → length_of self.new ≡ finished_length self.old progress table.now) }
+        ensures abandoned { IfErr result (λ fault. fault ≢ CopyFault.Unsure → (self.new.failed ≡ false) × ((content : Content) → StandsFor D.told self.old content → table_of content ≡ table.now → StandsFor D.told self.new content)) }
+        ensures unsure { IfErr result (λ fault. fault ≡ CopyFault.Unsure → (self.new.failed ≡ true) × ((content : Content) → StandsFor D.told self.old content → table_of content ≡ table.now → IsTrue (D.told self.old.disk).honest
+            → (len : ℕ) × Within (D.told self.new.disk).images (λ c. IsSide (table_of content).columns (opened (on (other self.old.side) c)) (table_of content) (self.old.generation + 1) len))) }
+    {
+        let Some(progress) = self.copy else {
+            unreachable!()
+        };
+        let Ok(last) = gather_rest(self.alloc, table, progress, &self.ends) else {
+            self.copy = None;
+            self.ends.truncate(0);
+            return Err(CopyFault::Memory);
+        };
+        let last = last.as_slice();
+        let length = progress.at + last.len() as u64 - (BASE_AT + 1);
+        let header = header_of(self.generation + 1, length);
+        self.finish(progress, last, &header)
+    }
+
+    // Writes what is left of a copy and its header, opens its gate, and goes on with its side.
+    fn finish(&mut self, progress: Progress, last: &[u8], header: &[u8; 20]) -> Result<u64, CopyFault>
+        requires copying { self.old.copy ≡ Some progress }
+        requires whole { self.old.failed ≡ false }
+        requires content { (content : Content) × StandsFor D.told self.old content × IsRest self.old progress content last.now header.now }
+        ensures any_moment { (content : Content) → StandsFor D.told self.old content → IsRest self.old progress content last.now header.now → IsTrue (D.told self.old.disk).honest
+            → LeavesOnly (D.told self.old.disk) (D.told self.new.disk) (IsPrefixOrNew content self.old.generation) }
+        ensures stands { OnOk result ((content : Content) → StandsFor D.told self.old content → IsRest self.old progress content last.now header.now → StandsFor D.told self.new (all_committed content)) }
+        ensures finished { OnOk result (self.new ≡ record self.old { disk = self.new.disk; side = other self.old.side; end = progress.at + length last.now; generation = self.old.generation + 1; records = []; reserved = 0; known = false; copy = None; ends = [] }) }
+        ensures generation { IfOk result (λ generation. generation ≡ self.old.generation + 1) }
+        // No longer than before.
+        ensures length { OnOk result (length_of self.new ≤ length_of self.old) }
+        // A copy that is abandoned leaves what the store stands for.
+        ensures abandoned { IfErr result (λ fault. fault ≢ CopyFault.Unsure → (self.new.failed ≡ false) × ((content : Content) → StandsFor D.told self.old content → IsRest self.old progress content last.now header.now → StandsFor D.told self.new content)) }
+        // Where it is unsure the new side is whole but for its gate in each image.
+        ensures unsure { IfErr result (λ fault. fault ≡ CopyFault.Unsure → (self.new.failed ≡ true) × ((content : Content) → StandsFor D.told self.old content → IsRest self.old progress content last.now header.now → IsTrue (D.told self.old.disk).honest
+            → Within (D.told self.new.disk).images (λ c. IsSide (table_of content).columns (opened (on (other self.old.side) c)) (table_of content) (self.old.generation + 1) (progress.at + length last.now)))) }
+        ensures honest { (D.told self.new.disk).honest ≡ (D.told self.old.disk).honest }
+    {
+        let side = other_of(self.side);
+        self.copy = None;
+        self.ends.truncate(0);
+        let Ok(()) = fill(&mut self.disk, side, progress.at, last, header) else {
+            return Err(CopyFault::Abandoned);
+        };
+        self.failed = true;
+        let Ok(()) = switch(&mut self.disk, side) else {
+            return Err(CopyFault::Unsure);
+        };
+        self.failed = false;
+        self.side = side;
+        self.end = progress.at + last.len() as u64;
+        self.generation += 1;
+        self.known = false;
+        self.batch.clear();
+        self.reserved = 0;
+        Ok(self.generation)
+    }
+}
+
+// The side that isn't current.
+fn other_of(side: Side) -> Side
+    ensures { result ≡ other side }
+{
+    match side {
+        Side::A => Side::B,
+        Side::B => Side::A,
     }
 }
 

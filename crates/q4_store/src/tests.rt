@@ -478,3 +478,41 @@ fn a_store_in_files(rt: HostRuntime) {
     };
     assert_eq!(rt; given(&rt, alloc, disk), Ok((1, 1, 2, 83)));
 }
+
+#[test]
+fn a_copy_beside_changes_is_read_again(rt: HostRuntime) {
+    let alloc = rt.alloc();
+    let (mut store, mut table) = opened(&rt, alloc, MemoryDisk::new(alloc));
+    for number in 1..11 {
+        append(&rt, &mut store, number, &job(&rt, alloc, 7, "a"), None);
+        assert!(rt; table.add(job(&rt, alloc, 7, "a"), None).is_ok());
+    }
+    assert_eq!(rt; store.commit(), Ok(()));
+    assert_eq!(rt; store.length(), 270);
+    assert_eq!(rt; store.compact_begin(), Ok(()));
+    assert_eq!(rt; store.copying(), Some(1));
+    assert_eq!(rt; store.compact_piece(&table, 4), Ok(false));
+    assert_eq!(rt; store.copying(), Some(5));
+    end(&rt, &mut store, 2);
+    table.end(2);
+    end(&rt, &mut store, 7);
+    table.end(7);
+    append(&rt, &mut store, 11, &job(&rt, alloc, 7, "a"), None);
+    assert!(rt; table.add(job(&rt, alloc, 7, "a"), None).is_ok());
+    assert_eq!(rt; store.commit(), Ok(()));
+    assert_eq!(rt; store.compact_piece(&table, 4), Ok(false));
+    assert_eq!(rt; store.copying(), Some(10));
+    end(&rt, &mut store, 5);
+    table.end(5);
+    let before = store.disk().calls();
+    assert_eq!(rt; store.compact_finish(&table), Ok(2));
+    assert_eq!(rt; store.disk().calls(), before + 5);
+    assert_eq!(rt; store.length(), 283);
+    assert!(rt; !store.pending());
+    append(&rt, &mut store, 12, &job(&rt, alloc, 7, "a"), None);
+    assert_eq!(rt; store.commit(), Ok(()));
+    assert_eq!(rt;
+        given(&rt, alloc, store.give_back()),
+        Ok((2, 9, 13, 310))
+    );
+}

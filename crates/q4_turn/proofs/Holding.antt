@@ -1,4 +1,4 @@
--- The steps of a hold keep the rule: a ticket is drawn, the turn is looked for, the history is measured, the turn is ended.
+-- The steps of a hold keep the rule: a ticket is drawn, the turn is looked for, the history is measured, the turn is ended, the next is woken.
 use Rattle.std.proofs.Common.{◌≡◌, ◌≢◌, ℕ, zero, suc, ◌+◌, ◌%◌, ◌^◌, ◌<◌, ◌≤◌, eqb, Bool, true, false, true≢false, cond, List, [], ◌∷◌, ◌++◌, length, get_or, set, refl, sym, ap, ap₂, ◌∙◌, subst, inl, inr, ⊎_elim, arith}
 use Rattle.std.specs.Prelude.{Option, Some, None}
 use mathlib.Core.Logic.{dite}

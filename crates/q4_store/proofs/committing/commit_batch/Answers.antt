@@ -1,10 +1,10 @@
 use Rattle.std.proofs.Common.{◌≡◌, ℕ, ◌+◌, ◌-◌, List, [], ◌∷◌, length, IsTrue, sym, ◌∙◌, ap, inl, inr, refl, arith}
-use Rattle.q4_disk.specs.Images.{on, size}
+use Rattle.q4_disk.specs.Images.{on, other, size}
 use Rattle.q4_disk.proofs.Moments.{Along, other_stepped, other_synced, other_then}
 use Rattle.q4_store.specs.Commit.{EndsBehind, MayHaveBatch, grown}
 use Rattle.q4_store.specs.Device.{commit_calls}
 use Rattle.q4_store.proofs.Runs.{broke}
-use Rattle.q4_store.proofs.Filling.{as_long, long_landed}
+use Rattle.q4_store.proofs.Filling.{as_long, long_landed, there_written}
 use Rattle.q4_store.proofs.Landing.{Is, Behind, Staged, Gated, Done, started, write_behind, read_behind, sync_fails, sync_behind, write_gate, read_gate, gate_sync, is_done, landed}
 use Rattle.q4_store.proofs.committing.commit_batch.Given as given
 use Rattle.q4_store.proofs.committing.commit_batch.Goals as goal
@@ -149,3 +149,33 @@ returns-clause-device g c = (
     ),
   ),
 )
+
+-- what is read of the other side, after each device call
+module _ (g : given.Over) where
+  there_first : (c : goal.In_ok-write g) → IsTrue (g.D.Disk.told c.args.disk.now).honest → on (other c.args.side) (g.D.Disk.told c.write.new.self).bytes ≡ on (other c.args.side) (g.D.Disk.told c.args.disk.now).bytes
+  there_first c h = there_written c.args.side _ _ _ (c.in_ok-write.ensures.write h).done
+
+  there_synced : (c : goal.After-sync g) → IsTrue (g.D.Disk.told c.args.disk.now).honest → on (other c.args.side) (g.D.Disk.told c.sync.new.self).bytes ≡ on (other c.args.side) (g.D.Disk.told c.args.disk.now).bytes
+  there_synced c h = ap (on (other c.args.side)) (c.sync.ensures.sync (c.write.ensures.call.counted.honest ∙ h)).bytes ∙ there_first (goal.at.After-sync g c).In_ok-write h
+
+  there_gate : (c : goal.In_ok-write-2 g) → IsTrue (g.D.Disk.told c.args.disk.now).honest → on (other c.args.side) (g.D.Disk.told c.write-2.new.self).bytes ≡ on (other c.args.side) (g.D.Disk.told c.args.disk.now).bytes
+  there_gate c h = there_written c.args.side _ _ _ (c.in_ok-write-2.ensures.write (c.sync.ensures.call.counted.honest ∙ (c.write.ensures.call.counted.honest ∙ h))).done ∙ there_synced (goal.at.In_ok-write-2 g c).After-sync h
+
+  there_last : (c : goal.After-sync-2 g) → IsTrue (g.D.Disk.told c.args.disk.now).honest → on (other c.args.side) (g.D.Disk.told c.sync-2.new.self).bytes ≡ on (other c.args.side) (g.D.Disk.told c.args.disk.now).bytes
+  there_last c h = ap (on (other c.args.side)) (c.sync-2.ensures.sync (c.write-2.ensures.call.counted.honest ∙ (c.sync.ensures.call.counted.honest ∙ (c.write.ensures.call.counted.honest ∙ h)))).bytes ∙ there_gate (goal.at.After-sync-2 g c).In_ok-write-2 h
+
+pub returns-in_err-write-clause-there : goal.returns-in_err-write-clause-there
+returns-in_err-write-clause-there g c h = ap (on (other c.args.side)) (c.in_err-write.ensures.write h).failed
+
+pub returns-in_err-sync-clause-there : goal.returns-in_err-sync-clause-there
+returns-in_err-sync-clause-there g c h = there_synced g (goal.at.returns-in_err-sync-clause-there g c).After-sync h
+
+pub returns-in_err-write-2-clause-there : goal.returns-in_err-write-2-clause-there
+returns-in_err-write-2-clause-there g c h =
+    ap (on (other c.args.side)) (c.in_err-write-2.ensures.write (c.sync.ensures.call.counted.honest ∙ (c.write.ensures.call.counted.honest ∙ h))).failed ∙ there_synced g (goal.at.returns-in_err-write-2-clause-there g c).After-sync h
+
+pub returns-in_err-sync-2-clause-there : goal.returns-in_err-sync-2-clause-there
+returns-in_err-sync-2-clause-there g c h = there_last g (goal.at.returns-in_err-sync-2-clause-there g c).After-sync-2 h
+
+pub returns-clause-there : goal.returns-clause-there
+returns-clause-there g c h = there_last g (goal.at.returns-clause-there g c).After-sync-2 h

@@ -1,4 +1,4 @@
-use Rattle.std.proofs.Common.{◌≡◌, List, ℕ, [], IsTrue, sym, ◌∙◌, subst}
+use Rattle.std.proofs.Common.{◌≡◌, List, ℕ, [], IsTrue, sym, ◌∙◌, ◌+◌, ap, subst}
 use Rattle.q4_disk.specs.Time.{LeavesOnly}
 use Rattle.q4_disk.proofs.Moments.{weaker}
 use Rattle.q4_store.proofs.Lifting.{Holds}
@@ -40,7 +40,7 @@ returns-in-Err-clause-any_moment g c content s h =
 pub returns-in-Err-clause-open : goal.returns-in-Err-clause-open
 returns-in-Err-clause-open g c content s =
     let here = subst (λ store. StandsFor g.D.Disk.told store content) (sym c.self.view_is) s in
-    stands_open g.D.Disk.told _ content c.commit_batch.new.disk here c.commit_batch.ensures.honest (g.met.D.Disk.counts_now c.commit_batch.new.disk) (run g content (goal.at.returns-in-Err-clause-open g c).After-commit_batch s) c.commit_batch.ensures.other c.if-self.false
+    stands_open g.D.Disk.told _ content c.commit_batch.new.disk here c.commit_batch.ensures.honest (g.met.D.Disk.counts_now c.commit_batch.new.disk) (run g content (goal.at.returns-in-Err-clause-open g c).After-commit_batch s) c.commit_batch.ensures.other c.if-self.false c.commit_batch.ensures.there
 
 pub returns-in-Ok-clause-done : goal.returns-in-Ok-clause-done
 returns-in-Ok-clause-done g c content s =
@@ -52,7 +52,7 @@ returns-in-Ok-clause-done g c content s =
     settled_new g.D.Disk.told _ content here some kept.room c.if-self.false h _ c.as_slice.result.now c.pending_size.result c.as_slice.ensures c.pending_size.ensures
     (c.in-Ok.ensures.done _ h (ends_behind g.D.Disk.told _ content here some kept.room c.if-self.false h) (end_is g.D.Disk.told _ content here some kept.room c.if-self.false h))
     (c.in-Ok.ensures.only h) (c.commit_batch.ensures.other h))
-    c.commit_batch.ensures.other c.if-self.false c.clear.ensures.records
+    c.commit_batch.ensures.other c.if-self.false c.clear.ensures.records (ap (λ (n : ℕ). c.self.inside.end + n) c.pending_size.ensures) c.commit_batch.ensures.there
 
 pub returns-in-Ok-clause-device : goal.returns-in-Ok-clause-device
 returns-in-Ok-clause-device g c whole some =

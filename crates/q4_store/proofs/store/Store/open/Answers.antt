@@ -8,17 +8,17 @@ use Rattle.q4_store.proofs.store.Store.open.Goals as goal
 pub invariant_of-store : goal.invariant_of-store
 invariant_of-store g c =
     let found = c.in-Ok.ensures in
-    opened_held g.D.Disk.told _ c.args.def.now.columns found.sound.0 c.in-Ok.found.table found.sound.1 (λ h. found.settled (sym found.honest ∙ h)) c.in-Ok-hold.ensures.records c.count-rows.ensures _ _ refl c.in-Ok-hold.ensures.batch c.in-Ok-hold.ensures.ends
+    opened_held g.D.Disk.told _ c.args.def.now.columns found.sound.0 c.in-Ok.found.table found.sound.1 (λ h. found.settled (sym found.honest ∙ h)) c.in-Ok-hold.ensures.records c.count-rows.ensures _ _ refl c.in-Ok-hold.ensures.none c.in-Ok-hold.ensures.batch c.in-Ok-hold.ensures.ends
 
 pub returns-clause-stands : goal.returns-clause-stands
 returns-clause-stands g c =
     let found = c.in-Ok.ensures in
-    opened_stands g.D.Disk.told _ c.args.def.now.columns found.sound.0 c.in-Ok.found.table found.sound.1 (λ h. found.settled (sym found.honest ∙ h)) c.in-Ok-hold.ensures.records c.count-rows.ensures c.requires (λ h. found.ready (sym found.honest ∙ h))
+    opened_stands g.D.Disk.told _ c.args.def.now.columns found.sound.0 c.in-Ok.found.table found.sound.1 (λ h. found.settled (sym found.honest ∙ h)) c.in-Ok-hold.ensures.records c.count-rows.ensures c.requires refl (λ h. found.ready (sym found.honest ∙ h))
 
 pub returns-clause-fresh : goal.returns-clause-fresh
 returns-clause-fresh g c =
     let found = c.in-Ok.ensures in
-    (refl, c.in-Ok-hold.ensures.records, refl, (sound_side _ found.sound.0 c.in-Ok.found.table c.in-Ok.found.generation c.in-Ok.found.end (are_columns _ c.requires) found.sound.1).columns_are)
+    (refl, c.in-Ok-hold.ensures.records, refl, refl, (sound_side _ found.sound.0 c.in-Ok.found.table c.in-Ok.found.generation c.in-Ok.found.end (are_columns _ c.requires) found.sound.1).columns_are)
 
 pub returns-clause-generation : goal.returns-clause-generation
 returns-clause-generation g c =
