@@ -10,7 +10,7 @@ use Rattle.q4_turn.specs.Views.{times, claims, claimed, numbered, ticketed, held
 use Rattle.q4_turn.specs.Rules.{IsClaim, Fits, IsTurn, Keeps}
 use Rattle.q4_turn.specs.Steps.{TellsGrowth}
 use Rattle.q4_turn.proofs.Basics.{marked_apart, marked_more, Every-apart, total_kept, total_one, total_two, each_set, Every-weaker, Every-append, starts_more}
-use Rattle.q4_turn.proofs.Entering.{once_in, is_founded, is_away, holds_alone, few_numbers}
+use Rattle.q4_turn.proofs.Holding.{once_in, is_founded, is_away, holds_alone, few_numbers}
 
 module _ {V E : Type 0} (stands : V → List E → Type 0) (mark : E → ℕ) (all : ℕ) where
   abbrev St : Type 0
@@ -79,6 +79,7 @@ module _ {V E : Type 0} (stands : V → List E → Type 0) (mark : E → ℕ) (a
           serving = r.serving;
           made = r.made;
           history = more;
+          bells = r.bells;
           words = ap₂ (λ (l : List ℕ) (n : ℕ). set l 2 n) r.words next;
           small = (sm.0, sm.1, omega arith, sm.3);
           waits = λ t le lt. total_kept (ticketed t) s.views id v w at refl ∙ r.waits t le lt;

@@ -19,8 +19,8 @@ module _ {V E : Type 0} (stands : V → List E → Type 0) (mark : E → ℕ) (a
   abbrev M : Type 0
   M = Me (Option V) (View E)
 
-  pub starts : Keeps stands mark all (opening (0 ∷ 0 ∷ 0 ∷ 1 ∷ []) (None ∷ []) (founding_view all))
-  starts = inl record { words = refl; one = inl (refl, refl) }
+  pub starts : (bells : List ℕ) → Keeps stands mark all (opening (0 ∷ 0 ∷ 0 ∷ 1 ∷ bells) (None ∷ []) (founding_view all))
+  starts bells = inl record { bells = bells; words = refl; one = inl (refl, refl) }
 
   -- the founding view stands alone
   not_yet : (s : St) (id : ℕ) (v : View E) → get_elem? s.views id ≡ some v → v.founding ≡ true → Keeps stands mark all s → IsFounding all s
@@ -40,6 +40,7 @@ module _ {V E : Type 0} (stands : V → List E → Type 0) (mark : E → ℕ) (a
         takes 0 None,
         ap (λ (l : List (maybe.Option (Option V))). get_elem? l 0) h.0,
         inl record {
+          bells = u.bells;
           words = set_same s.words 0 0 ∙ u.words;
           one = inr (
             ap (λ (l : List (maybe.Option (Option V))). set l 0 none) h.0,
@@ -52,8 +53,8 @@ module _ {V E : Type 0} (stands : V → List E → Type 0) (mark : E → ℕ) (a
       let here = alone (founding_taken all) me.0 id (subst (λ (l : List (View E)). get_elem? l id ≡ some me.0) h.1 at) in
       absurd (true≢false (ap (λ (v : View E). v.holding) (here.1 ∙ young)))) u.one
 
-  first_turn : (s : St) (y : V) (es : List E) → s.words ≡ 0 ∷ 0 ∷ length es ∷ 1 ∷ [] → s.homes ≡ some (Some y) ∷ [] → s.views ≡ first_view all es ∷ [] → length es ≡ 1 → 0 < all → stands y es → Every (λ e. mark e ≡ 0) es → IsTurn stands mark all s
-  first_turn s y es words homes views one some_part fits mine =
+  first_turn : (s : St) (y : V) (es : List E) (bells : List ℕ) → s.words ≡ 0 ∷ 0 ∷ length es ∷ 1 ∷ bells → s.homes ≡ some (Some y) ∷ [] → s.views ≡ first_view all es ∷ [] → length es ≡ 1 → 0 < all → stands y es → Every (λ e. mark e ≡ 0) es → IsTurn stands mark all s
+  first_turn s y es bells words homes views one some_part fits mine =
       let b : View E = first_view all es in
       let is : (f : View E → ℕ) → total f s.views ≡ f b = λ f. ap (λ (l : List (View E)). total f l) views ∙ (omega arith) in
       let zeroth : times 0 (claims b) ≡ 1 = refl in
@@ -63,6 +64,7 @@ module _ {V E : Type 0} (stands : V → List E → Type 0) (mark : E → ℕ) (a
         serving = 0;
         made = 1;
         history = es;
+        bells = bells;
         words = words;
         small = (omega arith, omega arith, omega arith, omega arith);
         waits = λ t le lt. absurd (omega arith);
@@ -100,7 +102,7 @@ module _ {V E : Type 0} (stands : V → List E → Type 0) (mark : E → ℕ) (a
         w,
         gives,
         tt,
-        inr (first_turn (stepped s 2 ((x + 1) % 18446744073709551616) id me.1 w gives) y es
+        inr (first_turn (stepped s 2 ((x + 1) % 18446744073709551616) id me.1 w gives) y es u.bells
             (ap₂ (λ (l : List ℕ) (n : ℕ). set l 2 n) u.words next)
             (ap₂ (λ (l : List (maybe.Option (Option V))) (c : List (ℕ × Option V)). put_back l c) h.0 has)
             (ap₂ (λ (l : List (View E)) (i : ℕ). set l i w) h.1 here.0 ∙ ap (λ (v : View E). first_view v.parts es ∷ []) young)

@@ -15,7 +15,7 @@ use Rattle.q4_turn.specs.Passes.{Ended}
 use Rattle.atomic_table.specs.Table.{Joins, Splits, Seen, Final}
 use Rattle.atomic_table.proofs.Lists.{set_else}
 use Rattle.q4_turn.proofs.Basics.{after_seen, none_of_these, Every-after, starts_shorter, total_only, starts_longer, longer_first, longer_second, marked_between, each_gone, times-append, total_split, each_split, set_same, total_set, total_kept, total_two, total_some, Every-weaker, Every-append}
-use Rattle.q4_turn.proofs.Entering.{restep, once_in, is_founded, slot_kept}
+use Rattle.q4_turn.proofs.Holding.{restep, once_in, is_founded, slot_kept}
 
 module _ {V E : Type 0} (stands : V → List E → Type 0) (mark : E → ℕ) (all : ℕ) where
   abbrev St : Type 0
@@ -63,6 +63,7 @@ module _ {V E : Type 0} (stands : V → List E → Type 0) (mark : E → ℕ) (a
         serving = r.serving;
         made = r.made;
         history = r.history;
+        bells = r.bells;
         words = r.words;
         small = r.small;
         waits = λ t le lt. tickets t ∙ r.waits t le lt;
@@ -181,6 +182,7 @@ module _ {V E : Type 0} (stands : V → List E → Type 0) (mark : E → ℕ) (a
         serving = r.serving;
         made = r.made;
         history = r.history;
+        bells = r.bells;
         words = r.words;
         small = r.small;
         waits = λ t le lt. now (ticketed t) refl ∙ r.waits t le lt;

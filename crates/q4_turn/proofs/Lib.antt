@@ -1,5 +1,5 @@
 pub mod Basics
-pub mod Entering
+pub mod Holding
 pub mod Adding
 pub mod Founding
 pub mod Splitting

@@ -15,7 +15,7 @@ use Rattle.q4_turn.specs.Steps.{TellsNumber, TellsExact, TellsCompared}
 use Rattle.atomic_table.specs.Table.{Splits}
 use Rattle.atomic_table.proofs.Lists.{exchanged}
 use Rattle.q4_turn.proofs.Basics.{set_same, starts_both, marked_nowhere, marked_before, total-plus, total_split, each_split, total_set, total_kept, total_one, each_set, Every-weaker, one_same, one_other}
-use Rattle.q4_turn.proofs.Entering.{restep, once_in, is_founded, few_numbers, slot_kept, stays, Goes}
+use Rattle.q4_turn.proofs.Holding.{restep, once_in, is_founded, few_numbers, slot_kept, stays, Goes}
 
 module _ {V E : Type 0} (stands : V → List E → Type 0) (mark : E → ℕ) (all : ℕ) where
   abbrev St : Type 0
@@ -90,6 +90,7 @@ module _ {V E : Type 0} (stands : V → List E → Type 0) (mark : E → ℕ) (a
           serving = r.serving;
           made = r.made + 1;
           history = r.history;
+          bells = r.bells;
           words = ap₂ (λ (l : List ℕ) (n : ℕ). set l 3 n) r.words next;
           small = (sm.0, sm.1, sm.2, omega arith);
           waits = λ t le lt. total_kept (ticketed t) s.views id v w at refl ∙ r.waits t le lt;
@@ -144,6 +145,7 @@ module _ {V E : Type 0} (stands : V → List E → Type 0) (mark : E → ℕ) (a
         serving = r.serving;
         made = r.made;
         history = r.history;
+        bells = r.bells;
         words = r.words;
         small = r.small;
         waits = λ t le lt. tickets t ∙ r.waits t le lt;

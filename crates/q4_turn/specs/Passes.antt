@@ -20,7 +20,7 @@ module _ {V E : Type 0} where
     pub holding : s.me.0.holding ≡ false
     pub closing : s.me.0.closing ≡ false
     pub in_hand : s.me.0.in_hand ≡ None
-    pub slots : s.me.1 ≡ []
+    pub slots : length s.me.1 ≡ 0
 
   -- a pass of this turn that waits with this ticket
   pub record Waits (z : TableId) (t : ℕ) (s : Seat (Option V) (View E)) : Type 0 where

@@ -17,11 +17,11 @@ use Rattle.q4_turn.specs.Turns.{turn_id, IsFree}
 table_id_set : IsSet TableId
 table_id_set = Coded-set table_id_coded
 
-Rests-prop : {V E : Type 0} → IsSet V → (z : TableId) (s : Seat (Option V) (View E)) → IsProp (Rests z s)
-Rests-prop value z s = hlevel (props, table_id_set, is_set, value)
+Rests-prop : {V E : Type 0} → (z : TableId) (s : Seat (Option V) (View E)) → IsProp (Rests z s)
+Rests-prop z s = hlevel (props, table_id_set)
 
-pub IsFree-prop : {V E : Type 0} → IsSet V → (t : Turn V E) (p : Pass V E) → IsProp (IsFree t p)
-IsFree-prop value t p = Rests-prop value (turn_id t) p.seat
+pub IsFree-prop : {V E : Type 0} → (t : Turn V E) (p : Pass V E) → IsProp (IsFree t p)
+IsFree-prop t p = Rests-prop (turn_id t) p.seat
 
 Every-prop : {A : Type 0} (P : A → Type 0) → ((x : A) → IsProp (P x)) → (l : List A) → IsProp (Every P l)
 Every-prop P each [] = Unit-prop

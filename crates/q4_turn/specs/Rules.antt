@@ -34,13 +34,14 @@ Slot {V} {E} stands homes views history =
     ((total held views ≡ 0) × ((y : V) × (homes ≡ some (Some y) ∷ []) × stands y history))
     ⊎ ((total held views ≡ 1) × (homes ≡ none ∷ []))
 
--- the rule from the first entry on. The words are the next ticket, the ticket that is served, the length of the history and the next number
+-- the rule from the first entry on. The words are the next ticket, the ticket that is served, the length of the history, the next number, and those that threads sleep on, which may be any
 pub record IsTurn {V E : Type 0} (stands : V → List E → Type 0) (mark : E → ℕ) (all : ℕ) (s : State (Option V) (View E)) : Type 0 where
   pub ticket : ℕ
   pub serving : ℕ
   pub made : ℕ
   pub history : List E
-  pub words : s.words ≡ ticket ∷ serving ∷ length history ∷ made ∷ []
+  pub bells : List ℕ
+  pub words : s.words ≡ ticket ∷ serving ∷ length history ∷ made ∷ bells
   pub small : (serving ≤ ticket) × (ticket ≤ 2 ^ 62) × (length history ≤ 2 ^ 62) × (made ≤ 2 ^ 62)
   -- each ticket from serving up to ticket is in one view's hand, and no other ticket is in any
   pub waits : (t : ℕ) → serving ≤ t → t < ticket → total (ticketed t) s.views ≡ 1
@@ -58,7 +59,8 @@ pub record IsTurn {V E : Type 0} (stands : V → List E → Type 0) (mark : E �
 
 -- the rule before the first entry: there is one view, and no value yet
 pub record IsFounding {V E : Type 0} (all : ℕ) (s : State (Option V) (View E)) : Type 0 where
-  pub words : s.words ≡ 0 ∷ 0 ∷ 0 ∷ 1 ∷ []
+  pub bells : List ℕ
+  pub words : s.words ≡ 0 ∷ 0 ∷ 0 ∷ 1 ∷ bells
   pub one : ((s.homes ≡ some None ∷ []) × (s.views ≡ founding_view all ∷ [])) ⊎ ((s.homes ≡ none ∷ []) × (s.views ≡ founding_taken all ∷ []))
 
 -- the rule

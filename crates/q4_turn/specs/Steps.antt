@@ -51,6 +51,10 @@ module _ {V E : Type 0} where
   abbrev pub TellsEnd : Step (Option V) → At V E → ℕ → At V E → Type 0
   TellsEnd st m r m' = (m'.0 ≡ without_turn m.0) × (m'.1 ≡ [])
 
+  -- ring: nothing changes but a word of which the rule says nothing
+  abbrev pub TellsNothing : Step (Option V) → At V E → ℕ → At V E → Type 0
+  TellsNothing st m r m' = (m'.0 ≡ m.0) × (m'.1 ≡ m.1)
+
   -- draw a number: it was drawn and is none that the pass answers for, or another was found
   abbrev pub TellsNumber : Step (Option V) → At V E → ℕ → At V E → Type 0
   TellsNumber st m r m' = (r ≡ st.first → (m'.0 ≡ with_number m.0 r) × (times r (claims m.0) ≡ 0)) × (r ≢ st.first → m'.0 ≡ m.0) × (m'.1 ≡ m.1)

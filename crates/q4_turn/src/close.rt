@@ -4,7 +4,7 @@ ghost use Rattle.q4_turn.specs.Passes.{seat_view, Rests, Ended};
 ghost use Rattle.q4_turn.specs.Turns.{turn_parts, view, parts, IsFree};
 
 use crate::kept::Kept;
-use crate::plays::{After, Close};
+use crate::steps::{After, Close};
 use crate::turn::{Pass, Turn};
 use crate::view::View;
 use crate::words::{TICKET, VALUE};

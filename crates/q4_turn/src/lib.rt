@@ -4,13 +4,13 @@
 #![tactic(auto)]
 
 mod close;
-mod found;
-mod hold;
+mod enter_leave;
+mod held_value;
 mod kept;
-mod lend;
-mod passes;
-mod plays;
+mod new_turn;
 mod rule;
+mod split_join;
+mod steps;
 #[cfg(test)]
 mod tests;
 mod turn;

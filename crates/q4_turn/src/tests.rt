@@ -1,4 +1,5 @@
 //! Values that a turn keeps, and threads that hold it.
 mod counter;
+mod crowd;
 mod desk;
 mod device;

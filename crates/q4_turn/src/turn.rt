@@ -15,7 +15,7 @@ use std::snapshot::Snapshot;
 #[derive(Drop)]
 pub struct Turn<V: Kept> {
     pub(crate) table: Table<Option<V>, View<V::Entry>, u64, InTurn<V>, Global>,
-    ghost sized: { (table.shared.table_id.words ≡ 4) × (table.shared.table_id.slots ≡ 1) },
+    ghost sized: { (table.shared.table_id.words ≡ 68) × (table.shared.table_id.slots ≡ 1) },
 }
 
 /// What a thread holds the turn by. It takes no bytes.

@@ -1,5 +1,5 @@
 //! The words and the slot of the table that a turn stands on.
-ghost use Rattle.std.specs.Prelude.{◌≡◌, ◌%◌, ◌^◌};
+ghost use Rattle.std.specs.Prelude.{◌≡◌, ◌+◌, ◌%◌, ◌^◌};
 
 /// The word of the next ticket.
 pub(crate) const TICKET: usize = 0;
@@ -15,6 +15,25 @@ pub(crate) const MADE: usize = 3;
 
 /// The slot of the value.
 pub(crate) const VALUE: usize = 0;
+
+/// How many words follow for threads to sleep on. The rule of the turn says nothing of them.
+const BELLS: u64 = 64;
+
+/// What the words of a new turn are: no ticket, none served, no entry, and the number 0 is that of the first pass.
+pub(crate) const FIRST_WORDS: [u64; 68] = [
+    0, 0, 0, 1, //
+    0, 0, 0, 0, 0, 0, 0, 0, 0, 0, 0, 0, 0, 0, 0, 0, //
+    0, 0, 0, 0, 0, 0, 0, 0, 0, 0, 0, 0, 0, 0, 0, 0, //
+    0, 0, 0, 0, 0, 0, 0, 0, 0, 0, 0, 0, 0, 0, 0, 0, //
+    0, 0, 0, 0, 0, 0, 0, 0, 0, 0, 0, 0, 0, 0, 0, 0, //
+];
+
+/// The word on which whoever has this ticket sleeps. Tickets that are a multiple of 64 apart share one.
+pub(crate) fn bell(ticket: u64) -> usize
+    ensures { result ≡ 4 + ticket % 64 }
+{
+    MADE + 1 + (ticket % BELLS) as usize
+}
 
 /// So many tickets and so many numbers are drawn at most, and the history is at most so long.
 pub(crate) const MOST: u64 = 1 << 62;

@@ -6,13 +6,14 @@ ghost use Rattle.q4_turn.specs.Counted.{Grew, Joined};
 use crate::kept::Kept;
 use crate::turn::{Pass, Turn};
 use std::alloc::Global;
+use std::hint;
 use std::sync::Wait;
 use std::test::Fail;
 use std::thread::{Threads, join};
 
 #[derive(Drop)]
-struct Counter {
-    count: u64,
+pub(super) struct Counter {
+    pub(super) count: u64,
 }
 
 impl Kept for Counter {
@@ -25,8 +26,20 @@ impl Kept for Counter {
     ghost mark = { λ e. e };
 }
 
-// Enters once and adds so many entries of this pass, where there is room. Answers the length that it found, and how many it added.
-fn add<R: Wait>(rt: &R, turn: &Turn<Counter>, pass: &mut Pass<Counter>, more: u64) -> (u64, u64)
+fn linger(spins: u32) {
+    for _ in 0..spins {
+        hint::spin_loop();
+    }
+}
+
+// Enters once, lingers, and adds so many entries of this pass, where there is room. Answers the length that it found, and how many it added.
+fn add<R: Wait>(
+    rt: &R,
+    turn: &Turn<Counter>,
+    pass: &mut Pass<Counter>,
+    more: u64,
+    spins: u32,
+) -> (u64, u64)
     requires free { IsFree turn.now pass.old }
     requires few { more ≤ 2 }
     ensures free { IsFree turn.now pass.new }
@@ -34,6 +47,7 @@ fn add<R: Wait>(rt: &R, turn: &Turn<Counter>, pass: &mut Pass<Counter>, more: u6
     ensures few { result.1 ≤ more }
 {
     let mut held = turn.enter(rt, pass);
+    linger(spins);
     let count = held.count();
     if count < 1 << 61 {
         let value = held.value();
@@ -46,20 +60,27 @@ fn add<R: Wait>(rt: &R, turn: &Turn<Counter>, pass: &mut Pass<Counter>, more: u6
     }
 }
 
-fn work<R: Wait>(
+/// What a thread does: how often it enters, and how long it lingers in each hold.
+#[derive(Clone, Copy)]
+pub(super) struct Load {
+    pub(super) holds: u32,
+    pub(super) spins: u32,
+}
+
+pub(super) fn work<R: Wait>(
     rt: &R,
     turn: &Turn<Counter>,
     mut pass: Pass<Counter>,
-    times: u32,
+    load: Load,
 ) -> (Pass<Counter>, u64)
     requires { IsFree turn.now pass }
     ensures free { IsFree turn.now result.0 }
     ensures grew { Grew (view pass) result.1 (view result.0) }
 {
     let mut added = 0;
-    for i in 0..times {
+    for i in 0..load.holds {
         let _ = i;
-        let (_, more) = add(rt, turn, &mut pass, 1);
+        let (_, more) = add(rt, turn, &mut pass, 1, load.spins);
         added += more;
     }
     (pass, added)
@@ -69,7 +90,7 @@ fn work<R: Wait>(
 fn two<R: Threads + Wait + Sync>(
     rt: &R,
     alloc: Global,
-    times: u32,
+    holds: u32,
 ) -> Option<(Counter, Pass<Counter>, u64, u64)>
     ensures value { IfSome result (λ r. r.0.count ≡ length (view r.1).seen) }
     ensures passes { IfSome result (λ r. Joined r.2 r.3 (view r.1)) }
@@ -77,16 +98,17 @@ fn two<R: Threads + Wait + Sync>(
     let (turn, mut first) = Turn::new(alloc, Counter { count: 1 }, 2).ok()?;
     let second = turn.split(rt, alloc, &mut first, 1).ok()?;
     let shared = &turn;
+    let load = Load { holds, spins: 0 };
     let (a, b) = join(
         rt,
         move || -> (Pass<Counter>, u64)
             requires { IsFree shared.now first }
             ensures { IsFree shared.entry.now result.0 × Grew (view first) result.1 (view result.0) }
-        { work(rt, shared, first, times) },
+        { work(rt, shared, first, load) },
         move || -> (Pass<Counter>, u64)
             requires { IsFree shared.now second }
             ensures { IsFree shared.entry.now result.0 × Grew (view second) result.1 (view result.0) }
-        { work(rt, shared, second, times) },
+        { work(rt, shared, second, load) },
     );
     let (first, m) = a;
     let (second, n) = b;
@@ -113,7 +135,7 @@ fn alone<R: Wait>(rt: &R, alloc: Global, holds: &[(u64, u64)]) -> Option<(u64, C
     let mut right = 0u64;
     for &(more, length) in holds {
         let more = more.min(2);
-        let (count, added) = add(rt, &turn, &mut pass, more);
+        let (count, added) = add(rt, &turn, &mut pass, more, 0);
         if count == length && added == more {
             right = right.saturating_add(1);
         }

@@ -5,7 +5,6 @@ ghost use Rattle.q4_turn.specs.Steps.{IsExact};
 ghost use Rattle.q4_turn.specs.Passes.{MayAdd};
 ghost use Rattle.q4_turn.specs.Turns.{view, number, parts, mine, seen, IsFree, HasTurn, value_of};
 ghost use Rattle.q4_turn.specs.Props.{IsFree-prop};
-ghost use base.Stored.{Coded-set};
 
 use crate::kept::Kept;
 use crate::turn::{Held, Pass, Turn};
@@ -102,7 +101,7 @@ fn call_twice<V: Office, R: Wait>(
 struct Desk<'s, V: Kept> {
     turn: &'s Turn<V>,
     pass: Pass<V>,
-    ghost free: { IsFree turn.now pass } by { IsFree-prop (Coded-set V.code) turn.now pass },
+    ghost free: { IsFree turn.now pass } by { IsFree-prop turn.now pass },
 }
 
 impl<'s, V: Office> Desk<'s, V> {

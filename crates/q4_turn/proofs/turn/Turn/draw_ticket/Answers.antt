@@ -1,5 +1,5 @@
 use Rattle.std.proofs.Common.{rules, refl, arith}
-use Rattle.q4_turn.proofs.Entering.{draws}
+use Rattle.q4_turn.proofs.Holding.{draws}
 use Rattle.q4_turn.proofs.turn.Turn.draw_ticket.Goals as goal
 
 pub compare_exchange-found-requires : goal.compare_exchange-found-requires

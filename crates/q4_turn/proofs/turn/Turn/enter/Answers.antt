@@ -1,7 +1,7 @@
 use Rattle.std.proofs.Common.{rules, ap, sym, subst, ◌∙◌, Some}
 use Rattle.q4_turn.specs.Steps.{IsExact}
 use Rattle.q4_turn.proofs.Basics.{the_first, slot_had}
-use Rattle.q4_turn.proofs.Entering.{measures, all_entered}
+use Rattle.q4_turn.proofs.Holding.{measures, all_entered}
 use Rattle.q4_turn.proofs.turn.Turn.enter.Goals as goal
 
 pub load-count-requires : goal.load-count-requires

@@ -1,4 +1,5 @@
 use Rattle.std.proofs.Common.{subst, sym, length, ◌≤◌, rules, ap, ◌∙◌}
+use Rattle.std.proofs.lemmas.List.{nil_from_length}
 use Rattle.q4_turn.specs.Lists.{StartsWith}
 use Rattle.q4_turn.specs.Views.{compared}
 use Rattle.q4_turn.proofs.Basics.{begins_both}
@@ -10,7 +11,7 @@ pub join_seat-requires : goal.join_seat-requires
 join_seat-requires g c =
     let a = c.requires.first in
     let b = c.requires.second in
-    (a.turn, b.turn, b.slots, search rules, joins g.V.Kept.stands g.V.Kept.mark _ _ _ _ _ a.live a.ticket a.holding a.in_hand b.live b.ticket b.holding b.in_hand a.closing)
+    (a.turn, b.turn, nil_from_length _ b.slots, search rules, joins g.V.Kept.stands g.V.Kept.mark _ _ _ _ _ a.live a.ticket a.holding a.in_hand b.live b.ticket b.holding b.in_hand a.closing)
 
 pub load-requires : goal.load-requires
 load-requires g c =

@@ -1,7 +1,7 @@
 use Rattle.std.proofs.Common.{rules, ap, sym, ◌∙◌, subst, ◌∷◌, Some, None}
 use Rattle.atomic_table.specs.Table.{rest}
 use Rattle.q4_turn.proofs.Basics.{the_first}
-use Rattle.q4_turn.proofs.Entering.{ends}
+use Rattle.q4_turn.proofs.Holding.{ends}
 use Rattle.q4_turn.proofs.Adding.{counts}
 use Rattle.q4_turn.proofs.turn.Turn.leave_named.Goals as goal
 

@@ -1,6 +1,6 @@
 use Rattle.std.proofs.Common.{rules, ap, sym, subst, ◌∙◌, Some}
 use Rattle.q4_turn.specs.Steps.{Takes}
-use Rattle.q4_turn.proofs.Entering.{looks}
+use Rattle.q4_turn.proofs.Holding.{looks}
 use Rattle.q4_turn.proofs.turn.Turn.wait_for.Goals as goal
 
 pub load-serving-requires : goal.load-serving-requires

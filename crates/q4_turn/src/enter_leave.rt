@@ -6,9 +6,9 @@ ghost use Rattle.q4_turn.specs.Passes.{Holds, Waits, Entered, MayAdd};
 ghost use Rattle.q4_turn.specs.Turns.{view, seen, IsFree, HasTurn, value_of, count_of};
 
 use crate::kept::Kept;
-use crate::plays::{Count, Draw, End, Look, Measure, NamedEntries};
+use crate::steps::{Count, Draw, End, Look, Measure, NamedEntries, Ring};
 use crate::turn::{Held, Pass, Turn};
-use crate::words::{LENGTH, MOST, SERVING, TICKET, VALUE, low_half};
+use crate::words::{LENGTH, MOST, SERVING, TICKET, VALUE, bell, low_half};
 use std::hint;
 use std::marker::{Brand, PhantomData};
 use std::snapshot::Snapshot;
@@ -70,8 +70,11 @@ impl<V: Kept> Turn<V> {
         ensures takes { Takes V.stands V.mark (view pass.old) pass.new.seat.me }
     {
         let words = &self.table.shared;
+        let bell = bell(ticket);
         let mut looks = 0u8;
         for _ in rt.forever() {
+            // Read before the look below. Whoever serves this ticket changes `SERVING`, then the bell, then wakes. Where the look came too early for `SERVING`, the bell changes after this read, so either it no longer is what the sleep compares, or the wake comes after the sleep began.
+            let rung = words.peek(bell);
             let serving = words.load::<Look<V>>(&mut pass.seat, SERVING);
             if serving == ticket {
                 return;
@@ -80,7 +83,7 @@ impl<V: Kept> Turn<V> {
                 looks += 1;
                 hint::spin_loop();
             } else {
-                words.park(rt, SERVING, low_half(serving));
+                words.park(rt, bell, low_half(rung));
             }
         }
         unreachable!()
@@ -88,7 +91,7 @@ impl<V: Kept> Turn<V> {
 
     /// Gives the value back, which stands for the history and then the entries `es` of this pass, so many as `added` says.
     ///
-    /// It wakes whoever sleeps for the turn.
+    /// It wakes the thread that has the next ticket, if it sleeps.
     pub fn leave(&self, pass: &mut Pass<V>, held: Held<V>, added: u64)
         ghost es: { List V.Entry }
         requires turn { HasTurn self.now pass.old held }
@@ -121,10 +124,24 @@ impl<V: Kept> Turn<V> {
             Some(_) => unreachable!(),
         }
         let served = words.fetch_add::<End>(&mut pass.seat, SERVING, 1);
-        // Who draws a ticket after this look finds its turn at once, so it need not be woken.
-        if words.peek(TICKET) != served.wrapping_add(1) {
-            words.wake_all(SERVING);
+        let next = served.wrapping_add(1);
+        // Whoever draws this ticket after this look finds it served at once, so it need not be woken.
+        if words.peek(TICKET) != next {
+            self.ring(pass, next);
         }
+    }
+
+    // Wakes the thread that sleeps with this ticket, if one does.
+    fn ring(&self, pass: &mut Pass<V>, ticket: u64)
+        requires { IsFree self.now pass.old }
+        ensures free { IsFree self.now pass.new }
+        ensures view { view pass.new ≡ view pass.old }
+    {
+        let words = &self.table.shared;
+        let bell = bell(ticket);
+        words.fetch_add::<Ring>(&mut pass.seat, bell, 1);
+        // Wakes all that sleep there, since a thread with a ticket 64 greater may be the first among them.
+        words.wake_all(bell);
     }
 }
 

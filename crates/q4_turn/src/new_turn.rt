@@ -6,9 +6,9 @@ ghost use Rattle.q4_turn.specs.Steps.{IsExact};
 ghost use Rattle.q4_turn.specs.Turns.{turn_parts, view, IsFree};
 
 use crate::kept::Kept;
-use crate::plays::{Begin, NamedEntries, Open};
+use crate::steps::{Begin, NamedEntries, Open};
 use crate::turn::{Pass, Turn};
-use crate::words::{LENGTH, TICKET, VALUE};
+use crate::words::{FIRST_WORDS, LENGTH, TICKET, VALUE};
 use atomic_table::Table;
 use q4_value::NoMemory;
 use std::alloc::Global;
@@ -41,8 +41,7 @@ impl<V: Kept> Turn<V> {
         ensures pass { IfOk result (λ t. (view t.1 ≡ first_view parts N.entries) × IsExact V.mark (view t.1)) }
         ensures err { IfErr result (λ e. e.0 ≡ value) }
     {
-        // No ticket, none served, no entry, and the number 0 is that of the first pass.
-        match Table::vacant(alloc, &[0, 0, 0, 1], 1, &parts) {
+        match Table::vacant(alloc, &FIRST_WORDS, 1, &parts) {
             Ok((table, seat)) => {
                 let turn = Turn { table };
                 let mut pass = Pass { seat };

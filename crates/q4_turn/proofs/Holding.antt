@@ -1,4 +1,4 @@
--- The steps of a hold keep the rule: a ticket is drawn, the turn is looked for, the history is measured, the turn is ended.
+-- The steps of a hold keep the rule: a ticket is drawn, the turn is looked for, the history is measured, the turn is ended, the next is woken.
 use Rattle.std.proofs.Common.{◌≡◌, ◌≢◌, ℕ, zero, suc, ◌+◌, ◌%◌, ◌^◌, ◌<◌, ◌≤◌, eqb, Bool, true, false, true≢false, cond, List, [], ◌∷◌, ◌++◌, length, get_or, set, refl, sym, ap, ap₂, ◌∙◌, subst, inl, inr, ⊎_elim, arith}
 use Rattle.std.specs.Prelude.{Option, Some, None}
 use mathlib.Core.Logic.{dite}
@@ -14,7 +14,7 @@ use Rattle.q4_turn.specs.Lists.{StartsWith, total, Every, one_if, one_at, marked
 use Rattle.q4_turn.specs.Views.{times, claims, claimed, numbered, ticketed, held, live_parts, founding_view, founding_taken, with_ticket, with_turn, without_turn}
 use Rattle.q4_turn.specs.Rules.{IsClaim, Fits, Slot, IsTurn, IsFounding, Keeps}
 use Rattle.q4_turn.specs.Passes.{Entered}
-use Rattle.q4_turn.specs.Steps.{AreOthers, IsExact, TellsTicket, TellsLook, TellsLength, TellsEnd}
+use Rattle.q4_turn.specs.Steps.{AreOthers, IsExact, TellsTicket, TellsLook, TellsLength, TellsEnd, TellsNothing}
 use Rattle.q4_turn.proofs.Basics.{after_seen, set_same, total_set, total_kept, total_one, total_two, total_some, each_set, Every-weaker, starts_self, one_same, one_other}
 
 module _ {V E : Type 0} (stands : V → List E → Type 0) (mark : E → ℕ) (all : ℕ) where
@@ -43,7 +43,7 @@ module _ {V E : Type 0} (stands : V → List E → Type 0) (mark : E → ℕ) (a
   -- a step that changes tickets and the turn alone: the view at id becomes w, which answers for the same numbers and has the same parts
   pub restep : (s : St) (r : IsTurn stands mark all s) (id : ℕ) (v w : View E) (words : List ℕ) (homes : List (maybe.Option (Option V))) (ticket serving : ℕ) → get_elem? s.views id ≡ some v
       → live_parts w ≡ live_parts v → ((n : ℕ) → claimed n w ≡ claimed n v) → w.in_hand ≡ v.in_hand
-      → words ≡ ticket ∷ serving ∷ length r.history ∷ r.made ∷ [] → serving ≤ ticket → ticket ≤ 2 ^ 62
+      → words ≡ ticket ∷ serving ∷ length r.history ∷ r.made ∷ r.bells → serving ≤ ticket → ticket ≤ 2 ^ 62
       → ((t : ℕ) → serving ≤ t → t < ticket → total (ticketed t) (set s.views id w) ≡ 1)
       → ((t : ℕ) → t < serving → total (ticketed t) (set s.views id w) ≡ 0)
       → ((t : ℕ) → ticket ≤ t → total (ticketed t) (set s.views id w) ≡ 0)
@@ -58,6 +58,7 @@ module _ {V E : Type 0} (stands : V → List E → Type 0) (mark : E → ℕ) (a
         serving = serving;
         made = r.made;
         history = r.history;
+        bells = r.bells;
         words = is;
         small = (below, few, sm.2, sm.3);
         waits = waits;
@@ -107,7 +108,7 @@ module _ {V E : Type 0} (stands : V → List E → Type 0) (mark : E → ℕ) (a
         w,
         keeps,
         tt,
-        inr (restep s r id v w (set s.words 0 new) s.homes (r.ticket + 1) r.serving at refl (λ n. refl) refl (ap (λ (l : List ℕ). set l 0 new) r.words ∙ ap (λ (n : ℕ). n ∷ r.serving ∷ length r.history ∷ r.made ∷ []) next)
+        inr (restep s r id v w (set s.words 0 new) s.homes (r.ticket + 1) r.serving at refl (λ n. refl) refl (ap (λ (l : List ℕ). set l 0 new) r.words ∙ ap (λ (n : ℕ). n ∷ r.serving ∷ length r.history ∷ r.made ∷ r.bells) next)
             (omega arith) (omega arith)
             (λ t le lt. dite (ℕ_discrete t x) (λ e. subst (λ (n : ℕ). total (ticketed n) (set s.views id w) ≡ 1) (sym e) here) (λ ne. there t ne ∙ r.waits t le (omega arith)))
             (λ t lt. there t (λ e. omega arith) ∙ r.past t lt)
@@ -266,6 +267,20 @@ module _ {V E : Type 0} (stands : V → List E → Type 0) (mark : E → ℕ) (a
             record { founded = f.founded; holding = λ h. absurd (true≢false (sym h)); closing = f.closing; knows = λ h. let kn = f.knows h in record { part = kn.part; seen = kn.seen; unmerged = kn.unmerged; exact = kn.exact } }),
         (refl, ap (λ (c : List (ℕ × Option V)). rest c) has),
       )
+
+  past_four : (a b c d : ℕ) (l : List ℕ) (i j n : ℕ) → i ≡ suc (suc (suc (suc j))) → set (a ∷ b ∷ c ∷ d ∷ l) i n ≡ a ∷ b ∷ c ∷ d ∷ set l j n
+  past_four a b c d l i j n e = ap (λ (k : ℕ). set (a ∷ b ∷ c ∷ d ∷ l) k n) e
+
+  -- a word that threads sleep on may become any number
+  pub rings : (slots id : ℕ) (me : M) (i j k : ℕ) → i ≡ 4 + j → me.0.live ≡ true → Allows K slots id me i (λ n. (n + k) % 2 ^ 64) (TellsNothing (step slots i k 0 none) me)
+  rings slots id me i j k is alive s kept _ at _ =
+      let r = is_founded s id me.0 at alive kept in
+      let n : ℕ = (get_or s.words i 0 + k) % 18446744073709551616 in
+      let words : set s.words i n ≡ r.ticket ∷ r.serving ∷ length r.history ∷ r.made ∷ set r.bells j n =
+      ap (λ (l : List ℕ). set l i n) r.words ∙ past_four r.ticket r.serving (length r.history) r.made r.bells i j n (omega arith) in
+      let rung : IsTurn stands mark all record { words = set s.words i n; homes = s.homes; views = s.views } =
+      record { ticket = r.ticket; serving = r.serving; made = r.made; history = r.history; bells = set r.bells j n; words = words; small = r.small; waits = r.waits; past = r.past; future = r.future; slot = r.slot; parts = r.parts; each = r.each; below = r.below; above = r.above; added = r.added } in
+      (me.0, keeps, tt, inr (subst (λ (l : List (View E)). IsTurn stands mark all record { words = set s.words i n; homes = s.homes; views = l }) (sym (set_again s.views id me.0 at)) rung), (refl, refl))
 
   -- what `enter` says, once a ticket was drawn and the turn was taken
   pub all_entered : (v m w : View E) (t : ℕ) (es : List E) (value y : V) → value ≡ y → m ≡ with_ticket v t → w ≡ with_turn m es → (begins : StartsWith es m.seen) → AreOthers mark m begins.0 → stands y es → IsExact mark w

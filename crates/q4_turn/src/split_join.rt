@@ -7,7 +7,7 @@ ghost use Rattle.q4_turn.specs.Passes.{seat_view, Rests, HasNumber, IsSplitOff};
 ghost use Rattle.q4_turn.specs.Turns.{view, seen, IsFree};
 
 use crate::kept::Kept;
-use crate::plays::{Both, Compare, Cut, Know, NamedParts, Number};
+use crate::steps::{Both, Compare, Cut, Know, NamedParts, Number};
 use crate::turn::{Pass, Turn};
 use crate::view::View;
 use crate::words::{MADE, MOST, TICKET, low_half};

@@ -97,6 +97,15 @@ impl<V, E> Play<Option<V>, View<E>> for End {
     ghost then = { TellsEnd };
 }
 
+/// The addition to the word of a ticket by which whoever sleeps there sees that it was served.
+pub struct Ring;
+
+impl<V, E> Play<Option<V>, View<E>> for Ring {
+    ghost use Rattle.q4_turn.specs.Steps.{TellsNothing};
+
+    ghost then = { TellsNothing };
+}
+
 /// The exchange that draws a number.
 pub struct Number;
 
