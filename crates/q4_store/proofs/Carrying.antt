@@ -121,7 +121,7 @@ module _ {D : Type 0} (told : D → Told) (store : Stored D) (table : TableState
   end_carried number records ends rows reserved valid there is ends_are = elim (cases_lt number progress.cursor) [
     | inl lt ↦ end_below number records ends rows reserved valid lt there is (ends_are ∙ cond-true (ltb number progress.cursor) (store.ends ++ record_bytes (row_ended number)) store.ends (lt-ltb number progress.cursor lt))
     | inr le ↦ subst (λ (l : List ℕ). CopyStands told (record store { records = records; rows = rows; reserved = reserved; ends = l }) (record table { rows = without_row number table.rows }) progress)
-      (sym (ends_are ∙ cond-false (ltb number progress.cursor) (store.ends ++ record_bytes (row_ended number)) store.ends (le-ltb number progress.cursor le))) (end_above number records rows reserved le is)
+        (sym (ends_are ∙ cond-false (ltb number progress.cursor) (store.ends ++ record_bytes (row_ended number)) store.ends (le-ltb number progress.cursor le))) (end_above number records rows reserved le is)
   ]
 
 -- a store whose memory alone changed

@@ -100,7 +100,7 @@ from_removed : (cursor number : ℕ) (rows : List StoredRow) → number < cursor
 from_removed cursor number rows lt =
     filters_swap (is_from cursor) (λ r. not (eqb r.number number)) rows
     ∙ kept (λ r. not (eqb r.number number)) (rows_from cursor rows)
-      (All-weaker (λ (r : StoredRow). is_from cursor r ≡ true) (λ (r : StoredRow). not (eqb r.number number) ≡ true) (λ r on. let from = leb-true cursor r.number on in ap not (ne_eqb r.number number (λ same. omega (arith, same, from, lt)))) (rows_from cursor rows) (filter_passes (is_from cursor) rows))
+    (All-weaker (λ (r : StoredRow). is_from cursor r ≡ true) (λ (r : StoredRow). not (eqb r.number number) ≡ true) (λ r on. let from = leb-true cursor r.number on in ap not (ne_eqb r.number number (λ same. omega (arith, same, from, lt)))) (rows_from cursor rows) (filter_passes (is_from cursor) rows))
 
 module _ {D : Type 0} (store : Stored D) (records ends : List ℕ) (rows reserved : ℕ) (table : TableState) (number : ℕ) (row : List Value) (extra : ℕ) (progress : Progress) (valid : IsValidTable table) (is : values_in table.rows number ≡ Some row) (longer : finished_length store progress table ≡ compact_size table + extra) where
   abbrev later : Stored D
@@ -127,12 +127,12 @@ module _ {D : Type 0} (store : Stored D) (records ends : List ℕ) (rows reserve
   ended_longer : ends ≡ ends_with (Some progress) store.ends number → finished_length later progress fewer ≡ compact_size fewer + (extra + end_extra (Some progress) number row)
   ended_longer ends_are = elim (cases_lt number progress.cursor) [
     | inl lt ↦
-      below_longer lt (ends_are ∙ cond-true (ltb number progress.cursor) (store.ends ++ record_bytes (row_ended number)) store.ends (lt-ltb number progress.cursor lt))
-      ∙ ap (λ (n : ℕ). compact_size fewer + (extra + n)) (sym (cond-true (ltb number progress.cursor) (18 + row_size row) 0 (lt-ltb number progress.cursor lt)))
+        below_longer lt (ends_are ∙ cond-true (ltb number progress.cursor) (store.ends ++ record_bytes (row_ended number)) store.ends (lt-ltb number progress.cursor lt))
+        ∙ ap (λ (n : ℕ). compact_size fewer + (extra + n)) (sym (cond-true (ltb number progress.cursor) (18 + row_size row) 0 (lt-ltb number progress.cursor lt)))
     | inr le ↦
-      let none : end_extra (Some progress) number row ≡ 0 = cond-false (ltb number progress.cursor) (18 + row_size row) 0 (le-ltb number progress.cursor le) in
-      let same = above_longer le (ends_are ∙ cond-false (ltb number progress.cursor) (store.ends ++ record_bytes (row_ended number)) store.ends (le-ltb number progress.cursor le)) in
-      omega (arith, same, none)
+        let none : end_extra (Some progress) number row ≡ 0 = cond-false (ltb number progress.cursor) (18 + row_size row) 0 (le-ltb number progress.cursor le) in
+        let same = above_longer le (ends_are ∙ cond-false (ltb number progress.cursor) (store.ends ++ record_bytes (row_ended number)) store.ends (le-ltb number progress.cursor le)) in
+        omega (arith, same, none)
   ]
 
 pub row_ended_longer : {D : Type 0} (told : D → Told) (store : Stored D) (content : Content) (number : ℕ) (row : List Value) (records ends : List ℕ) (rows reserved extra : ℕ) → StandsFor told store content → values_in (table_of content).rows number ≡ Some row

@@ -36,12 +36,12 @@ gathered_rest bare columns cursor table n ends b0 b1 b2 b3 b4 b5 n_is e0 e1 e2 e
     let tail : records_bytes (ms ++ next_record table.next ∷ []) ≡ records_bytes ms ++ next = flat_map-append record_bytes ms (next_record table.next ∷ []) ∙ ap (λ (l : List ℕ). records_bytes ms ++ l) (append-nil next) in
     let all : records_bytes (rest_records cursor table) ≡ records_bytes rows ++ (records_bytes ms ++ next) = flat_map-append record_bytes rows (ms ++ next_record table.next ∷ []) ∙ ap (λ (l : List ℕ). records_bytes rows ++ l) tail in
     e5 ∙ ap (λ (l : List ℕ). l ++ 0 ∷ []) (
-      four
-      ∙ append_assoc ((s ++ ends) ++ records_bytes rows) (records_bytes ms) next
-      ∙ append_assoc (s ++ ends) (records_bytes rows) (records_bytes ms ++ next)
-      ∙ append_assoc s ends (records_bytes rows ++ (records_bytes ms ++ next))
-      ∙ ap (λ (l : List ℕ). s ++ (ends ++ l)) (sym all)
-      ∙ sym (piece_some bare columns ends rows ms (next_record table.next))
+    four
+    ∙ append_assoc ((s ++ ends) ++ records_bytes rows) (records_bytes ms) next
+    ∙ append_assoc (s ++ ends) (records_bytes rows) (records_bytes ms ++ next)
+    ∙ append_assoc s ends (records_bytes rows ++ (records_bytes ms ++ next))
+    ∙ ap (λ (l : List ℕ). s ++ (ends ++ l)) (sym all)
+    ∙ sym (piece_some bare columns ends rows ms (next_record table.next))
     )
 
 -- how long that is

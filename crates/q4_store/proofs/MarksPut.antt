@@ -39,33 +39,33 @@ pub marks_more : (i : ℕ) (ms : List Mark) → SourcesRise ms → All IsMark ms
 marks_more i [] rise are = refl
 marks_more i (m ∷ ms) rise are = elim (cases_order m.source i) [
   | inl same ↦
-    let later = All-weaker (λ (n : Mark). m.source < n.source) (λ (n : Mark). i + 1 ≤ n.source) (λ n lt. omega (arith, same, lt)) ms rise.0 in
-    let from = All-weaker (λ (n : Mark). m.source < n.source) (λ (n : Mark). i ≤ n.source) (λ n lt. omega (arith, same, lt)) ms rise.0 in
-    let positive = (All-head IsMark m ms are).positive in
-    let marked = ap (λ (b : Bool). unwrap_or (option_map (λ (q : Mark). q.number) (cond b (Some m) (find (λ q. eqb q.source i) ms))) 0) (eq-eqb m.source i same) in
-    cond-true (ltb m.source (i + 1)) (m ∷ marks_below (i + 1) ms) (marks_below (i + 1) ms) (lt-ltb m.source (i + 1) (omega (arith, same)))
-    ∙ ap (λ qs. m ∷ qs) (none_below (i + 1) ms later)
-    ∙ (λ k. record { source = same k; number = m.number } ∷ [])
-    ∙ sym (cond-true (ltb 0 m.number) (record { source = i; number = m.number } ∷ []) [] (lt-ltb 0 m.number (omega (arith, positive))))
-    ∙ sym (ap (mark_here i) marked)
-    ∙ ap (λ qs. qs ++ mark_here i (mark_of (m ∷ ms) i)) (sym (cond-false (ltb m.source i) (m ∷ marks_below i ms) (marks_below i ms) (le-ltb m.source i (omega (arith, same))) ∙ none_below i ms from))
+      let later = All-weaker (λ (n : Mark). m.source < n.source) (λ (n : Mark). i + 1 ≤ n.source) (λ n lt. omega (arith, same, lt)) ms rise.0 in
+      let from = All-weaker (λ (n : Mark). m.source < n.source) (λ (n : Mark). i ≤ n.source) (λ n lt. omega (arith, same, lt)) ms rise.0 in
+      let positive = (All-head IsMark m ms are).positive in
+      let marked = ap (λ (b : Bool). unwrap_or (option_map (λ (q : Mark). q.number) (cond b (Some m) (find (λ q. eqb q.source i) ms))) 0) (eq-eqb m.source i same) in
+      cond-true (ltb m.source (i + 1)) (m ∷ marks_below (i + 1) ms) (marks_below (i + 1) ms) (lt-ltb m.source (i + 1) (omega (arith, same)))
+      ∙ ap (λ qs. m ∷ qs) (none_below (i + 1) ms later)
+      ∙ (λ k. record { source = same k; number = m.number } ∷ [])
+      ∙ sym (cond-true (ltb 0 m.number) (record { source = i; number = m.number } ∷ []) [] (lt-ltb 0 m.number (omega (arith, positive))))
+      ∙ sym (ap (mark_here i) marked)
+      ∙ ap (λ qs. qs ++ mark_here i (mark_of (m ∷ ms) i)) (sym (cond-false (ltb m.source i) (m ∷ marks_below i ms) (marks_below i ms) (le-ltb m.source i (omega (arith, same))) ∙ none_below i ms from))
   | inr (inl lt) ↦
-    let others = ap (λ (b : Bool). unwrap_or (option_map (λ (q : Mark). q.number) (cond b (Some m) (find (λ q. eqb q.source i) ms))) 0) (ne_eqb m.source i (λ same. omega (arith, same, lt))) in
-    cond-true (ltb m.source (i + 1)) (m ∷ marks_below (i + 1) ms) (marks_below (i + 1) ms) (lt-ltb m.source (i + 1) (omega (arith, lt)))
-    ∙ ap (λ qs. m ∷ qs) (marks_more i ms rise.1 (All-tail IsMark m ms are))
-    ∙ ap (λ qs. qs ++ mark_here i (mark_of ms i)) (sym (cond-true (ltb m.source i) (m ∷ marks_below i ms) (marks_below i ms) (lt-ltb m.source i lt)))
-    ∙ ap (λ n. marks_below i (m ∷ ms) ++ mark_here i n) (sym others)
+      let others = ap (λ (b : Bool). unwrap_or (option_map (λ (q : Mark). q.number) (cond b (Some m) (find (λ q. eqb q.source i) ms))) 0) (ne_eqb m.source i (λ same. omega (arith, same, lt))) in
+      cond-true (ltb m.source (i + 1)) (m ∷ marks_below (i + 1) ms) (marks_below (i + 1) ms) (lt-ltb m.source (i + 1) (omega (arith, lt)))
+      ∙ ap (λ qs. m ∷ qs) (marks_more i ms rise.1 (All-tail IsMark m ms are))
+      ∙ ap (λ qs. qs ++ mark_here i (mark_of ms i)) (sym (cond-true (ltb m.source i) (m ∷ marks_below i ms) (marks_below i ms) (lt-ltb m.source i lt)))
+      ∙ ap (λ n. marks_below i (m ∷ ms) ++ mark_here i n) (sym others)
   | inr (inr gt) ↦
-    let from = All-weaker (λ (n : Mark). m.source < n.source) (λ (n : Mark). i ≤ n.source) (λ n lt. omega (arith, gt, lt)) ms rise.0 in
-    let later = All-weaker (λ (n : Mark). m.source < n.source) (λ (n : Mark). i + 1 ≤ n.source) (λ n lt. omega (arith, gt, lt)) ms rise.0 in
-    let above = All-weaker (λ (n : Mark). m.source < n.source) (λ (n : Mark). i < n.source) (λ n lt. omega (arith, gt, lt)) ms rise.0 in
-    let none = ap (λ (b : Bool). unwrap_or (option_map (λ (q : Mark). q.number) (cond b (Some m) (find (λ q. eqb q.source i) ms))) 0) (ne_eqb m.source i (λ same. omega (arith, same, gt)))
-        ∙ ap (λ (o : Option Mark). unwrap_or (option_map (λ (q : Mark). q.number) o) 0) (none_marked i ms above) in
-    cond-false (ltb m.source (i + 1)) (m ∷ marks_below (i + 1) ms) (marks_below (i + 1) ms) (le-ltb m.source (i + 1) (omega (arith, gt)))
-    ∙ none_below (i + 1) ms later
-    ∙ sym (cond-false (ltb m.source i) (m ∷ marks_below i ms) (marks_below i ms) (le-ltb m.source i (omega (arith, gt))) ∙ none_below i ms from)
-    ∙ sym (append-nil (marks_below i (m ∷ ms)))
-    ∙ ap (λ n. marks_below i (m ∷ ms) ++ mark_here i n) (sym none)
+      let from = All-weaker (λ (n : Mark). m.source < n.source) (λ (n : Mark). i ≤ n.source) (λ n lt. omega (arith, gt, lt)) ms rise.0 in
+      let later = All-weaker (λ (n : Mark). m.source < n.source) (λ (n : Mark). i + 1 ≤ n.source) (λ n lt. omega (arith, gt, lt)) ms rise.0 in
+      let above = All-weaker (λ (n : Mark). m.source < n.source) (λ (n : Mark). i < n.source) (λ n lt. omega (arith, gt, lt)) ms rise.0 in
+      let none = ap (λ (b : Bool). unwrap_or (option_map (λ (q : Mark). q.number) (cond b (Some m) (find (λ q. eqb q.source i) ms))) 0) (ne_eqb m.source i (λ same. omega (arith, same, gt)))
+      ∙ ap (λ (o : Option Mark). unwrap_or (option_map (λ (q : Mark). q.number) o) 0) (none_marked i ms above) in
+      cond-false (ltb m.source (i + 1)) (m ∷ marks_below (i + 1) ms) (marks_below (i + 1) ms) (le-ltb m.source (i + 1) (omega (arith, gt)))
+      ∙ none_below (i + 1) ms later
+      ∙ sym (cond-false (ltb m.source i) (m ∷ marks_below i ms) (marks_below i ms) (le-ltb m.source i (omega (arith, gt))) ∙ none_below i ms from)
+      ∙ sym (append-nil (marks_below i (m ∷ ms)))
+      ∙ ap (λ n. marks_below i (m ∷ ms) ++ mark_here i n) (sym none)
 ]
 
 pub all_marks : (ms : List Mark) → All IsMark ms → marks_below 64 ms ≡ ms

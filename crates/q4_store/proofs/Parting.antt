@@ -36,8 +36,8 @@ parted low next cursor [] rise = refl
 parted low next cursor (r ∷ rs) rise = elim (cases_lt r.number cursor) [
   | inl lt ↦ (λ i. below_here cursor r rs lt i ++ from_later cursor r rs lt i) ∙ ap (λ qs. r ∷ qs) (parted r.number next cursor rs rise.2)
   | inr le ↦
-    let all = All-cons (λ (q : StoredRow). cursor ≤ q.number) r rs le (rise_from r.number next cursor rs rise.2 (omega (arith, le))) in
-    (λ i. none_below cursor (r ∷ rs) all i ++ all_from cursor (r ∷ rs) all i)
+      let all = All-cons (λ (q : StoredRow). cursor ≤ q.number) r rs le (rise_from r.number next cursor rs rise.2 (omega (arith, le))) in
+      (λ i. none_below cursor (r ∷ rs) all i ++ all_from cursor (r ∷ rs) all i)
 ]
 
 -- the cursor goes on
@@ -75,18 +75,18 @@ below_after low next cursor zero [] rise = refl
 below_after low next cursor (suc n) [] rise = refl
 below_after low next cursor n (r ∷ rs) rise = elim (cases_lt r.number cursor) [
   | inl lt ↦
-    let rest = from_later cursor r rs lt in
-    let on = goes_on r.number next cursor n (rows_from cursor rs) (from_rises r.number next cursor rs rise.2) (are_from cursor rs) in
-    ap (λ qs. rows_below (cursor_after cursor (take n qs)) (r ∷ rs)) rest
-    ∙ below_here (cursor_after cursor (take n (rows_from cursor rs))) r rs (omega (arith, on, lt))
-    ∙ ap (λ qs. r ∷ qs) (below_after r.number next cursor n rs rise.2)
-    ∙ sym (λ i. below_here cursor r rs lt i ++ take n (rest i))
+      let rest = from_later cursor r rs lt in
+      let on = goes_on r.number next cursor n (rows_from cursor rs) (from_rises r.number next cursor rs rise.2) (are_from cursor rs) in
+      ap (λ qs. rows_below (cursor_after cursor (take n qs)) (r ∷ rs)) rest
+      ∙ below_here (cursor_after cursor (take n (rows_from cursor rs))) r rs (omega (arith, on, lt))
+      ∙ ap (λ qs. r ∷ qs) (below_after r.number next cursor n rs rise.2)
+      ∙ sym (λ i. below_here cursor r rs lt i ++ take n (rest i))
   | inr le ↦
-    let all = All-cons (λ (q : StoredRow). cursor ≤ q.number) r rs le (rise_from r.number next cursor rs rise.2 (omega (arith, le))) in
-    let whole = all_from cursor (r ∷ rs) all in
-    ap (λ qs. rows_below (cursor_after cursor (take n qs)) (r ∷ rs)) whole
-    ∙ first_below low next cursor n (r ∷ rs) rise all
-    ∙ sym (λ i. none_below cursor (r ∷ rs) all i ++ take n (whole i))
+      let all = All-cons (λ (q : StoredRow). cursor ≤ q.number) r rs le (rise_from r.number next cursor rs rise.2 (omega (arith, le))) in
+      let whole = all_from cursor (r ∷ rs) all in
+      ap (λ qs. rows_below (cursor_after cursor (take n qs)) (r ∷ rs)) whole
+      ∙ first_below low next cursor n (r ∷ rs) rise all
+      ∙ sym (λ i. none_below cursor (r ∷ rs) all i ++ take n (whole i))
 ]
 
 -- a row that is added is not below the cursor
@@ -110,7 +110,7 @@ pub below_removed : (cursor number : ℕ) (rows : List StoredRow) → cursor ≤
 below_removed cursor number rows le =
     filters_swap (is_below cursor) (λ r. not (eqb r.number number)) rows
     ∙ kept (λ r. not (eqb r.number number)) (rows_below cursor rows)
-      (All-weaker (λ (r : StoredRow). is_below cursor r ≡ true) (λ (r : StoredRow). not (eqb r.number number) ≡ true) (λ r lt. let below = ltb-true r.number cursor lt in ap not (ne_eqb r.number number (λ same. omega (arith, same, below, le)))) (rows_below cursor rows) (filter_passes (is_below cursor) rows))
+    (All-weaker (λ (r : StoredRow). is_below cursor r ≡ true) (λ (r : StoredRow). not (eqb r.number number) ≡ true) (λ r lt. let below = ltb-true r.number cursor lt in ap not (ne_eqb r.number number (λ same. omega (arith, same, below, le)))) (rows_below cursor rows) (filter_passes (is_below cursor) rows))
 
 -- and below it: it is there below it too
 found_if : (number cursor : ℕ) (r : StoredRow) (rs : List StoredRow) (b d : Bool) → eqb r.number number ≡ b → ltb r.number cursor ≡ d → number < cursor → (IsSome (row_in rs number) → IsSome (row_in (rows_below cursor rs) number))

@@ -43,17 +43,17 @@ first_row : (low next cursor : ℕ) (rows : List StoredRow) (r : StoredRow) (res
 first_row low next cursor [] r rest rise is = absurd (cc is)
 first_row low next cursor (x ∷ xs) r rest rise is = elim (cases_lt x.number cursor) [
   | inl lt ↦
-    let later = sym (from_later cursor x xs lt) ∙ is in
-    let from = All-head (λ (q : StoredRow). cursor ≤ q.number) r rest (subst (λ qs. All (λ (q : StoredRow). cursor ≤ q.number) qs) later (are_from cursor xs)) in
-    first_later cursor x r xs rest (omega (arith, lt, from)) (first_row x.number next cursor xs r rest rise.2 later)
+      let later = sym (from_later cursor x xs lt) ∙ is in
+      let from = All-head (λ (q : StoredRow). cursor ≤ q.number) r rest (subst (λ qs. All (λ (q : StoredRow). cursor ≤ q.number) qs) later (are_from cursor xs)) in
+      first_later cursor x r xs rest (omega (arith, lt, from)) (first_row x.number next cursor xs r rest rise.2 later)
   | inr le ↦
-    let all = All-cons (λ (q : StoredRow). cursor ≤ q.number) x xs le (rise_from x.number next cursor xs rise.2 (omega (arith, le))) in
-    let same = heads x r xs rest (sym (all_from cursor (x ∷ xs) all) ∙ is) in
-    let here = first_here low next x xs rise in
-    record {
-      behind = ap (λ (q : StoredRow). rows_from (q.number + 1) (x ∷ xs)) (sym same.0) ∙ here.behind ∙ same.1;
-      values = ap (λ (q : StoredRow). values_in (x ∷ xs) q.number) (sym same.0) ∙ here.values ∙ ap (λ (q : StoredRow). Some q.row) same.0;
-    }
+      let all = All-cons (λ (q : StoredRow). cursor ≤ q.number) x xs le (rise_from x.number next cursor xs rise.2 (omega (arith, le))) in
+      let same = heads x r xs rest (sym (all_from cursor (x ∷ xs) all) ∙ is) in
+      let here = first_here low next x xs rise in
+      record {
+        behind = ap (λ (q : StoredRow). rows_from (q.number + 1) (x ∷ xs)) (sym same.0) ∙ here.behind ∙ same.1;
+        values = ap (λ (q : StoredRow). values_in (x ∷ xs) q.number) (sym same.0) ∙ here.values ∙ ap (λ (q : StoredRow). Some q.row) same.0;
+      }
 ]
 
 -- what the least number says of the rows from the cursor on

@@ -87,7 +87,12 @@ pub(crate) fn prepare<D: Disk>(disk: &mut D, side: Side, known: &mut bool) -> Re
 
 /// Writes more of a table behind what a side has, whose gate is closed. Nothing is synced, and the gate stays closed,
 /// whether it fails or not.
-pub(crate) fn extend<D: Disk>(disk: &mut D, side: Side, at: u64, more: &[u8]) -> Result<(), DiskFailed>
+pub(crate) fn extend<D: Disk>(
+    disk: &mut D,
+    side: Side,
+    at: u64,
+    more: &[u8],
+) -> Result<(), DiskFailed>
     requires behind { 1 ≤ at }
     requires place { IsTrue (D.told disk.old).honest → at ≤ size side (D.told disk.old).bytes }
     ensures honest { (D.told disk.new).honest ≡ (D.told disk.old).honest }
@@ -106,7 +111,12 @@ pub(crate) fn extend<D: Disk>(disk: &mut D, side: Side, at: u64, more: &[u8]) ->
 }
 
 /// The same, without a call where there is nothing to write.
-pub(crate) fn extend_by<D: Disk>(disk: &mut D, side: Side, at: u64, more: &[u8]) -> Result<(), DiskFailed>
+pub(crate) fn extend_by<D: Disk>(
+    disk: &mut D,
+    side: Side,
+    at: u64,
+    more: &[u8],
+) -> Result<(), DiskFailed>
     requires behind { 1 ≤ at }
     requires place { IsTrue (D.told disk.old).honest → at ≡ size side (D.told disk.old).bytes }
     ensures honest { (D.told disk.new).honest ≡ (D.told disk.old).honest }

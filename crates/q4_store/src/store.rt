@@ -447,8 +447,17 @@ impl<D: Disk> Store<D> {
         // The new side stands for the table as it is, and nothing waits.
         ensures stands { OnOk result ((content : Content) → StandsFor D.told self.old content → table_of content ≡ without_owners table.now → StandsFor D.told self.new (all_committed content)) }
         ensures generation { IfOk result (λ generation. generation ≡ self.old.generation + 1) }
-        ensures finished { OnOk result (ForSome self.old.copy (λ progress. self.new ≡ record self.old { disk = self.new.disk; side = other self.old.side; end = finished_length self.old progress table.now; generation = self.old.generation + 1;
-            records = []; reserved = 0; known = false; copy = None; ends = [] })) }
+        ensures finished { OnOk result (ForSome self.old.copy (λ progress. self.new ≡ record self.old {
+          disk = self.new.disk;
+          side = other self.old.side;
+          end = finished_length self.old progress table.now;
+          generation = self.old.generation + 1;
+          records = [];
+          reserved = 0;
+          known = false;
+          copy = None;
+          ends = [];
+        })) }
         // It is no longer than before, and as long as the copy would be.
         ensures length { OnOk result (length_of self.new ≤ length_of self.old) }
         ensures exact { OnOk result ((content : Content) (extra : ℕ) → StandsFor D.told self.old content → table_of content ≡ without_owners table.now → IsLongerBy self.old (table_of content) extra
@@ -482,7 +491,12 @@ impl<D: Disk> Store<D> {
     }
 
     // Writes what is left of a copy and its header, opens its gate, and goes on with its side.
-    fn finish(&mut self, progress: Progress, last: &[u8], header: &[u8; 20]) -> Result<u64, CopyFault>
+    fn finish(
+        &mut self,
+        progress: Progress,
+        last: &[u8],
+        header: &[u8; 20],
+    ) -> Result<u64, CopyFault>
         requires copying { self.old.copy ≡ Some progress }
         requires whole { self.old.failed ≡ false }
         requires content { (content : Content) × StandsFor D.told self.old content × IsRest self.old progress content last.now header.now }

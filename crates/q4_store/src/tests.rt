@@ -511,8 +511,5 @@ fn a_copy_beside_changes_is_read_again(rt: HostRuntime) {
     assert!(rt; !store.pending());
     append(&rt, &mut store, 12, &job(&rt, alloc, 7, "a"), None);
     assert_eq!(rt; store.commit(), Ok(()));
-    assert_eq!(rt;
-        given(&rt, alloc, store.give_back()),
-        Ok((2, 9, 13, 310))
-    );
+    assert_eq!(rt; given(&rt, alloc, store.give_back()), Ok((2, 9, 13, 310)));
 }

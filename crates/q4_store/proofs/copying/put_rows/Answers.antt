@@ -36,7 +36,9 @@ pub loop-left-preserved : goal.loop-left-preserved
 loop-left-preserved c =
     let l = found c in
     let same = row_given c.args.table.now c.loop-left.cursor c.in-Some.number l c.in-Some-row.row.now (sym (ap option_copied c.in-Some-row.is) ∙ c.row.ensures) in
-    let left_is : c.loop-left.left ≡ (c.loop-left.left - 1) + 1 = let some = c.loop-left-test.true in omega (arith, some) in
-    (one_more c.args.table.now c.args.cursor c.args.most c.args.out.now c.loop-left.cursor (c.loop-left.left - 1) c.loop-left.out c.put_insert.new.out c.in-Some.number
-    (subst (λ n. RowsSoFar c.args.table.now c.args.cursor c.args.most c.args.out.now c.loop-left.cursor n c.loop-left.out) left_is c.loop-left.invariant.0) l
-    (record_given c.loop-left.out c.put_insert.new.out c.in-Some.number c.in-Some-row.row.now l.r c.in_ok-put_insert.ensures.put l.is same), c.tables_are_valid.ensures)
+    let left_is : c.loop-left.left ≡ (c.loop-left.left - 1) + 1 = let some = c.loop-left-test.true in omega (arith, some) in (
+      one_more c.args.table.now c.args.cursor c.args.most c.args.out.now c.loop-left.cursor (c.loop-left.left - 1) c.loop-left.out c.put_insert.new.out c.in-Some.number
+          (subst (λ n. RowsSoFar c.args.table.now c.args.cursor c.args.most c.args.out.now c.loop-left.cursor n c.loop-left.out) left_is c.loop-left.invariant.0) l
+          (record_given c.loop-left.out c.put_insert.new.out c.in-Some.number c.in-Some-row.row.now l.r c.in_ok-put_insert.ensures.put l.is same),
+      c.tables_are_valid.ensures,
+    )

@@ -142,47 +142,47 @@ returns-clause-before_the_gate g c = if_err c.finish.result (λ fault before oth
 pub returns-clause-goes_on : goal.returns-clause-goes_on
 returns-clause-goes_on g c =
     if_err c.finish.result (λ fault before other content s same.
-        before other content s (rest_given g (goal.at.returns-clause-goes_on g c).After-header_of-header content same)) c.finish.ensures.goes_on
+    before other content s (rest_given g (goal.at.returns-clause-goes_on g c).After-header_of-header content same)) c.finish.ensures.goes_on
 
 pub returns-clause-unsure : goal.returns-clause-unsure
 returns-clause-unsure g c =
     let told = g.D.Disk.told in
     let a = (goal.at.returns-clause-unsure g c).After-as_slice-last in
     if_err c.finish.result (λ fault before is content s same h progress copying.
-        subst (λ n. Within (told c.finish.new.self.disk).images (IsUnsure content c.args.self.now.generation (other c.args.self.now.side) n)) (end_here g a progress copying)
-        (before is content s (rest_given g (goal.at.returns-clause-unsure g c).After-header_of-header content same) h)) c.finish.ensures.unsure
+    subst (λ n. Within (told c.finish.new.self.disk).images (IsUnsure content c.args.self.now.generation (other c.args.self.now.side) n)) (end_here g a progress copying)
+    (before is content s (rest_given g (goal.at.returns-clause-unsure g c).After-header_of-header content same) h)) c.finish.ensures.unsure
 
 pub returns-clause-finished : goal.returns-clause-finished
 returns-clause-finished g c =
     let a = (goal.at.returns-clause-finished g c).After-as_slice-last in
     on_ok c.finish.result (λ finished progress is.
-        finished ∙ (λ i. record c.args.self.now { disk = c.finish.new.self.disk; side = other c.args.self.now.side; end = end_here g a progress is i; generation = c.args.self.now.generation + 1; records = []; reserved = 0; known = false; copy = None; ends = [] })) c.finish.ensures.finished
+    finished ∙ (λ i. record c.args.self.now { disk = c.finish.new.self.disk; side = other c.args.self.now.side; end = end_here g a progress is i; generation = c.args.self.now.generation + 1; records = []; reserved = 0; known = false; copy = None; ends = [] })) c.finish.ensures.finished
 
 pub returns-clause-exact : goal.returns-clause-exact
 returns-clause-exact g c =
     let a = (goal.at.returns-clause-exact g c).After-as_slice-last in
     on_ok c.finish.result (λ finished content extra s same longer.
-        let progress = c.in-Some.progress in
-        let is = sym (ap (λ (store : Stored g.row.D.Denot). store.copy) c.self.view_is) ∙ c.in-Some.is in
-        let end : length_of c.finish.new.self ≡ progress.at + length c.as_slice-last.result.now + 0 = ap length_of finished in
-        let told = end_here g a progress is in
-        let owners = finished_unowned c.args.self.now progress c.args.table.now in
-        let here = longer progress is in
-        let there = ap (finished_length c.args.self.now progress) same in
-        omega (arith, end, told, owners, here, there)) c.finish.ensures.finished
+    let progress = c.in-Some.progress in
+    let is = sym (ap (λ (store : Stored g.row.D.Denot). store.copy) c.self.view_is) ∙ c.in-Some.is in
+    let end : length_of c.finish.new.self ≡ progress.at + length c.as_slice-last.result.now + 0 = ap length_of finished in
+    let told = end_here g a progress is in
+    let owners = finished_unowned c.args.self.now progress c.args.table.now in
+    let here = longer progress is in
+    let there = ap (finished_length c.args.self.now progress) same in
+    omega (arith, end, told, owners, here, there)) c.finish.ensures.finished
 
 pub returns-clause-device : goal.returns-clause-device
 returns-clause-device g c =
     let a = (goal.at.returns-clause-device g c).After-as_slice-last in
     let b = (goal.at.returns-clause-device g c).After-finish in
     on_ok c.finish.result (λ made progress is.
-        subst (λ (calls : List DeviceCall). AllMade g.D.Disk.told calls c.args.self.now.disk c.finish.new.self.disk)
-        (λ i. fill_calls (other c.args.self.now.side) (progress_is g a progress is i).at (last_here g a progress is i) (header_here g b progress is i) ++ switch_calls (other c.args.self.now.side)) made) c.finish.ensures.device
+    subst (λ (calls : List DeviceCall). AllMade g.D.Disk.told calls c.args.self.now.disk c.finish.new.self.disk)
+    (λ i. fill_calls (other c.args.self.now.side) (progress_is g a progress is i).at (last_here g a progress is i) (header_here g b progress is i) ++ switch_calls (other c.args.self.now.side)) made) c.finish.ensures.device
 
 pub returns-clause-device_err : goal.returns-clause-device_err
 returns-clause-device_err g c =
     let a = (goal.at.returns-clause-device_err g c).After-as_slice-last in
     let b = (goal.at.returns-clause-device_err g c).After-finish in
     if_err c.finish.result (λ fault stops progress is.
-        subst (λ (calls : List DeviceCall). FinishStops g.D.Disk.told calls (switch_calls (other c.args.self.now.side)) fault c.args.self.now.disk c.finish.new.self.disk)
-        (λ i. fill_calls (other c.args.self.now.side) (progress_is g a progress is i).at (last_here g a progress is i) (header_here g b progress is i)) stops) c.finish.ensures.device_err
+    subst (λ (calls : List DeviceCall). FinishStops g.D.Disk.told calls (switch_calls (other c.args.self.now.side)) fault c.args.self.now.disk c.finish.new.self.disk)
+    (λ i. fill_calls (other c.args.self.now.side) (progress_is g a progress is i).at (last_here g a progress is i) (header_here g b progress is i)) stops) c.finish.ensures.device_err

@@ -72,7 +72,7 @@ module _ (g : given.Over) where
 
   -- what was gathered, by the content
   gathered : (c : goal.After-extend_by g) (content : Content) (s : StandsFor g.D.Disk.told c.args.self.now content) → table_of content ≡ without_owners c.args.table.now → c.as_slice-more.result.now ≡ piece g.D.Disk.told _ content (here c content s) c.in-Some.progress c.in-Some.is c.args.most
-  gathered c content s same = 
+  gathered c content s same =
       c.as_slice-more.ensures ∙ c.in-Ok.ensures.bytes
       ∙ (λ i. piece_bytes (c.in-Some.progress.at == base_at) c.args.table.now.columns (c.deref.ensures.value i) (sym (piece_unowned c.args.most c.in-Some.progress.cursor c.args.table.now) i))
       ∙ (λ i. piece_bytes (c.in-Some.progress.at == base_at) (sym same i).columns c.self.inside.ends.items (map row_record (taken c.args.most c.in-Some.progress.cursor (sym same i))))

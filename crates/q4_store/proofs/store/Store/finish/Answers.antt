@@ -213,7 +213,7 @@ returns-in_default-switch-clause-device_err g c =
     let a = (goal.at.returns-in_default-switch-clause-device_err g c).After-truncate in (
       c.fill.new.disk,
       subst (λ (old : g.row.D.Denot). AllMade g.D.Disk.told (fill_calls (other c.args.self.now.side) c.args.progress.at c.args.last.now c.args.header.now) old c.fill.new.disk) (same_disk g a)
-      (calls_made g a (λ side. fill_calls side c.args.progress.at c.args.last.now c.args.header.now) c.self.inside.disk c.fill.new.disk c.in-Ok.ensures.device),
+          (calls_made g a (λ side. fill_calls side c.args.progress.at c.args.last.now c.args.header.now) c.self.inside.disk c.fill.new.disk c.in-Ok.ensures.device),
       calls_broke g a switch_calls c.fill.new.disk c.switch.new.disk c.in_default-switch.ensures.device,
     )
 
