@@ -3,12 +3,17 @@ ghost use Rattle.q4_value.specs.Row.{IsValue, row_size as size_of};
 ghost use Rattle.q4_store.specs.Content.{row_added};
 ghost use Rattle.q4_store.specs.Lengths.{change_size};
 
+mod acts;
+mod commits;
+mod copies;
+mod openings;
+mod stops;
+mod twin;
+
 use crate::OpenFault::{Damaged, Large, Schema};
 use crate::{AppendFault, OpenFault, Store, room};
 use q4_def::read_defs;
-use q4_disk::{
-    Disk, DiskFailed, DiskMaker, FailingDisk, FileMaker, MemoryDisk, Numbers, Pick, Side, StopDisk,
-};
+use q4_disk::{Disk, DiskMaker, FileMaker, MemoryDisk, Pick, Side, StopDisk};
 use q4_table::{Mode, Origin, Table};
 use q4_value::{Bytes, Row, Value, Words, fits, row_size};
 use std::alloc::Global;
@@ -183,22 +188,6 @@ fn a_store_writes_the_worked_side(rt: HostRuntime) {
     assert_eq!(rt; given(&rt, alloc, disk), Ok((1, 1, 2, 83)));
 }
 
-#[test]
-fn three_appends_make_one_commit(rt: HostRuntime) {
-    let alloc = rt.alloc();
-    let (mut store, _) = opened(&rt, alloc, MemoryDisk::new(alloc));
-    let row = job(&rt, alloc, 7, "a");
-    append(&rt, &mut store, 1, &row, None);
-    append(&rt, &mut store, 2, &row, None);
-    append(&rt, &mut store, 3, &row, None);
-    let before = counts(store.disk());
-    assert_eq!(rt; store.commit(), Ok(()));
-    assert_eq!(rt; added(before, counts(store.disk())), [4, 2, 2, 0]);
-    let before = counts(store.disk());
-    assert_eq!(rt; store.commit(), Ok(()));
-    assert_eq!(rt; added(before, counts(store.disk())), [0, 0, 0, 0]);
-}
-
 // The numbers of device calls, writes, syncs and faults.
 fn counts(disk: &MemoryDisk) -> [u64; 4] {
     [disk.calls(), disk.writes(), disk.syncs(), disk.faults()]
@@ -268,24 +257,6 @@ fn many_rows_are_read_again(rt: HostRuntime) {
     );
 }
 
-#[test]
-fn a_store_that_failed_makes_no_call(rt: HostRuntime) {
-    let alloc = rt.alloc();
-    let mut numbers = Numbers::new(alloc);
-    // opening makes 13 calls, the first commit 4, and the second commit's last sync is the 21st
-    assert!(rt; numbers.push(21).is_ok());
-    let disk = FailingDisk::new(MemoryDisk::new(alloc), numbers);
-    let (mut store, _) = opened(&rt, alloc, disk);
-    let row = job(&rt, alloc, 7, "a");
-    append(&rt, &mut store, 1, &row, None);
-    assert_eq!(rt; store.commit(), Ok(()));
-    append(&rt, &mut store, 2, &row, None);
-    assert_eq!(rt; store.commit(), Err(DiskFailed));
-    let before = counts(store.disk().inner());
-    assert_eq!(rt; store.commit(), Err(DiskFailed));
-    assert_eq!(rt; added(before, counts(store.disk().inner())), [0, 0, 0, 0]);
-}
-
 // A disk of the picked image.
 fn left(rt: &impl Abort, alloc: Global, disk: &StopDisk, pick: Pick) -> MemoryDisk {
     let a = image(rt, alloc, disk, Side::A, pick);
@@ -298,162 +269,6 @@ fn image(rt: &impl Abort, alloc: Global, disk: &StopDisk, side: Side, pick: Pick
         Ok(bytes) => bytes,
         Err(_) => panic!(rt; "no image"),
     }
-}
-
-#[test]
-fn a_commit_that_stops_leaves_all_or_nothing(rt: HostRuntime) {
-    let alloc = rt.alloc();
-    let row = job(&rt, alloc, 8, "b");
-    // opening makes 6 calls where there is a table
-    for stop in 7..=10 {
-        let disk = StopDisk::new(seeded(&rt, alloc, &WORKED, &[]), stop);
-        let (mut store, table) = opened(&rt, alloc, disk);
-        assert_eq!(rt; table.count(), 1);
-        append(&rt, &mut store, 2, &row, None);
-        assert_eq!(rt; store.commit(), Err(DiskFailed));
-        let disk = store.give_back();
-        for pick in PICKS {
-            // the gate is written by the third call
-            let kept = stop >= 9 && matches!(pick, Pick::Kept | Pick::Ones);
-            let want = if kept { (1, 2, 3, 110) } else { (1, 1, 2, 83) };
-            assert_eq!(rt;
-                given(&rt, alloc, left(&rt, alloc, &disk, pick)),
-                Ok(want),
-                "{stop}"
-            );
-        }
-    }
-}
-
-// Opens a disk that stops at this call, and tells whether the opening came to its end.
-fn stopped(rt: &impl Abort, alloc: Global, a: &[u8], stop: u64) -> (bool, StopDisk) {
-    let disk = StopDisk::new(seeded(rt, alloc, a, &[]), stop);
-    match open(rt, alloc, disk) {
-        Ok((store, _table)) => (true, store.give_back()),
-        Err((fault, disk)) => {
-            assert_eq!(rt; fault, OpenFault::Disk);
-            (false, disk)
-        }
-    }
-}
-
-#[test]
-fn an_opening_that_stops_leaves_a_new_table(rt: HostRuntime) {
-    let alloc = rt.alloc();
-    // side A without a byte, with a closed gate, and with an open one that is cut short: so many calls are made
-    let cases: [(&[u8], u64); 3] = [(&[], 13), (&[0, 1, 1], 11), (&[1, 1, 1], 13)];
-    for (a, calls) in cases {
-        for stop in 1..=14 {
-            let (done, disk) = stopped(&rt, alloc, a, stop);
-            assert_eq!(rt; done, stop > calls, "{stop}");
-            for pick in PICKS {
-                let left = left(&rt, alloc, &disk, pick);
-                assert_eq!(rt; given(&rt, alloc, left), Ok((1, 0, 1, 45)), "{stop}");
-            }
-        }
-    }
-}
-
-// The first bytes of the worked side, with one byte changed.
-fn changed(rt: &impl Abort, alloc: Global, len: usize, at: usize, byte: u8) -> Vec<u8> {
-    let mut bytes = Vec::new(alloc);
-    for (place, was) in WORKED.iter().enumerate() {
-        if place < len {
-            let now = if place == at { byte } else { *was };
-            assert!(rt; bytes.push(now).is_ok());
-        }
-    }
-    bytes
-}
-
-#[test]
-fn damaged_sides(rt: HostRuntime) {
-    let alloc = rt.alloc();
-    // the length that is kept, the byte that is changed and what it becomes
-    let cases: [(usize, usize, u8, Given); 26] = [
-        (83, 83, 0, Ok((1, 1, 2, 83))),
-        (60, 83, 0, Err(Damaged(Side::A, 44))),
-        (50, 44, 0, Ok((1, 0, 1, 45))),
-        (83, 1, 0x50, Err(Damaged(Side::A, 0))),
-        (83, 12, 0x00, Err(Damaged(Side::A, 0))),
-        (83, 20, 0xff, Err(Damaged(Side::A, 0))),
-        (83, 5, 0x40, Err(Large(7))),
-        (83, 23, 0x02, Err(Schema(1))),
-        (83, 31, 0x63, Err(Schema(2))),
-        (83, 23, 0x07, Err(Damaged(Side::A, 21))),
-        (83, 35, 0x02, Err(Damaged(Side::A, 35))),
-        (83, 35, 0x07, Err(Damaged(Side::A, 35))),
-        (83, 35, 0x09, Err(Damaged(Side::A, 35))),
-        (83, 43, 0x00, Err(Damaged(Side::A, 35))),
-        (83, 36, 0x40, Err(Large(3))),
-        (83, 43, 0x05, Err(Damaged(Side::A, 49))),
-        (83, 57, 0x02, Err(Damaged(Side::A, 49))),
-        (83, 49, 0x03, Err(Damaged(Side::A, 49))),
-        (83, 48, 0x22, Err(Damaged(Side::A, 44))),
-        (83, 48, 0x20, Err(Damaged(Side::A, 49))),
-        (83, 69, 0x0d, Err(Damaged(Side::A, 49))),
-        (83, 70, 0xff, Err(Damaged(Side::A, 49))),
-        (83, 67, 0x01, Err(Large(4))),
-        (83, 82, 0x01, Err(Damaged(Side::A, 82))),
-        (83, 0, 0x00, Ok((1, 0, 1, 45))),
-        (20, 83, 0, Ok((1, 0, 1, 45))),
-    ];
-    for (len, at, byte, want) in cases {
-        let a = changed(&rt, alloc, len, at, byte);
-        assert_eq!(rt;
-            given(&rt, alloc, seeded(&rt, alloc, &a, &[])),
-            want,
-            "{len} {at} {byte}"
-        );
-    }
-}
-
-// A side of generation 2 without a row, with this gate.
-fn of_generation_two(rt: &impl Abort, alloc: Global, gate: u8) -> Vec<u8> {
-    let mut bytes = Vec::new(alloc);
-    for (place, was) in WORKED[..45].iter().enumerate() {
-        let now = match place {
-            0 => gate,
-            12 => 2,
-            44 => 0,
-            _ => *was,
-        };
-        assert!(rt; bytes.push(now).is_ok());
-    }
-    bytes
-}
-
-#[test]
-fn two_open_sides(rt: HostRuntime) {
-    let alloc = rt.alloc();
-    let worked = WORKED.as_slice();
-    let bad = changed(&rt, alloc, 83, 1, 0x50);
-    let newer = of_generation_two(&rt, alloc, 1);
-    let closed = of_generation_two(&rt, alloc, 0);
-    assert_eq!(rt;
-        given(&rt, alloc, seeded(&rt, alloc, worked, worked)),
-        Err(Damaged(Side::B, 5))
-    );
-    assert_eq!(rt;
-        given(&rt, alloc, seeded(&rt, alloc, &bad, worked)),
-        Err(Damaged(Side::A, 0))
-    );
-    assert_eq!(rt;
-        given(&rt, alloc, seeded(&rt, alloc, worked, &bad)),
-        Err(Damaged(Side::B, 0))
-    );
-    assert_eq!(rt;
-        given(&rt, alloc, seeded(&rt, alloc, worked, &newer)),
-        Ok((2, 0, 1, 45))
-    );
-    assert_eq!(rt;
-        given(&rt, alloc, seeded(&rt, alloc, &newer, worked)),
-        Ok((2, 0, 1, 45))
-    );
-    assert_eq!(rt;
-        given(&rt, alloc, seeded(&rt, alloc, &closed, worked)),
-        Ok((1, 1, 2, 83))
-    );
 }
 
 #[test]
@@ -477,39 +292,4 @@ fn a_store_in_files(rt: HostRuntime) {
         panic!(rt; "no files")
     };
     assert_eq!(rt; given(&rt, alloc, disk), Ok((1, 1, 2, 83)));
-}
-
-#[test]
-fn a_copy_beside_changes_is_read_again(rt: HostRuntime) {
-    let alloc = rt.alloc();
-    let (mut store, mut table) = opened(&rt, alloc, MemoryDisk::new(alloc));
-    for number in 1..11 {
-        append(&rt, &mut store, number, &job(&rt, alloc, 7, "a"), None);
-        assert!(rt; table.add(job(&rt, alloc, 7, "a"), None).is_ok());
-    }
-    assert_eq!(rt; store.commit(), Ok(()));
-    assert_eq!(rt; store.length(), 270);
-    assert_eq!(rt; store.compact_begin(), Ok(()));
-    assert_eq!(rt; store.copying(), Some(1));
-    assert_eq!(rt; store.compact_piece(&table, 4), Ok(false));
-    assert_eq!(rt; store.copying(), Some(5));
-    end(&rt, &mut store, 2);
-    table.end(2);
-    end(&rt, &mut store, 7);
-    table.end(7);
-    append(&rt, &mut store, 11, &job(&rt, alloc, 7, "a"), None);
-    assert!(rt; table.add(job(&rt, alloc, 7, "a"), None).is_ok());
-    assert_eq!(rt; store.commit(), Ok(()));
-    assert_eq!(rt; store.compact_piece(&table, 4), Ok(false));
-    assert_eq!(rt; store.copying(), Some(10));
-    end(&rt, &mut store, 5);
-    table.end(5);
-    let before = store.disk().calls();
-    assert_eq!(rt; store.compact_finish(&table), Ok(2));
-    assert_eq!(rt; store.disk().calls(), before + 5);
-    assert_eq!(rt; store.length(), 283);
-    assert!(rt; !store.pending());
-    append(&rt, &mut store, 12, &job(&rt, alloc, 7, "a"), None);
-    assert_eq!(rt; store.commit(), Ok(()));
-    assert_eq!(rt; given(&rt, alloc, store.give_back()), Ok((2, 9, 13, 310)));
 }

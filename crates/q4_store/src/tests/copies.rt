@@ -1,0 +1,309 @@
+use super::acts::Act::{Add, Begin, Commit, End, Finish, Forward, Piece};
+use super::acts::Answer::{self, Done, Fault, Generation, Last, More};
+use super::acts::{Act, Want};
+use super::twin::Twin;
+use super::{added, counts};
+use crate::CopyFault::Abandoned;
+use q4_disk::{FailingDisk, MemoryDisk, Numbers};
+use q4_table::Mode;
+use std::test::*;
+
+// A table of one number.
+const NUMBERED: &str = "[[table]]\nname = \"t\"\ncolumns = [\"n int\"]\n";
+
+// Calls on a new table, and what opening gives after them. The record of a row has 9 bytes and the row: of a number
+// 17 in all, of a number and a text of one byte 22. A side without a row or a mark has 36 bytes with the one schema,
+// and 45 with the other.
+struct Copy {
+    name: &'static str,
+    text: &'static str,
+    acts: &'static [(Act, Answer)],
+    want: Want,
+}
+
+static COPIES: [Copy; 8] = [
+    Copy {
+        name: "no row",
+        text: "",
+        acts: &[(Begin, Done), (Finish, Generation(2))],
+        want: Want {
+            generation: 2,
+            rows: &[],
+            next: 1,
+            marks: &[],
+            length: 45,
+        },
+    },
+    Copy {
+        name: "one of many rows is left",
+        text: NUMBERED,
+        acts: &[
+            (Add(3000), Done),
+            (Commit, Done),
+            (End(1, 2999), Done),
+            (Commit, Done),
+            (Begin, Done),
+            (Finish, Generation(2)),
+        ],
+        want: Want {
+            generation: 2,
+            rows: &[(3000, 3000)],
+            next: 3001,
+            marks: &[],
+            length: 53,
+        },
+    },
+    Copy {
+        name: "three pieces",
+        text: NUMBERED,
+        acts: &[
+            (Add(3000), Done),
+            (Commit, Done),
+            (Begin, Done),
+            (Piece(1024), More),
+            (Piece(1024), More),
+            (Piece(1024), Last),
+            (Finish, Generation(2)),
+        ],
+        want: Want {
+            generation: 2,
+            rows: &[(1, 3000)],
+            next: 3001,
+            marks: &[],
+            length: 51_036,
+        },
+    },
+    Copy {
+        name: "two full pieces",
+        text: NUMBERED,
+        acts: &[
+            (Add(2048), Done),
+            (Commit, Done),
+            (Begin, Done),
+            (Piece(1024), More),
+            (Piece(1024), Last),
+            (Finish, Generation(2)),
+        ],
+        want: Want {
+            generation: 2,
+            rows: &[(1, 2048)],
+            next: 2049,
+            marks: &[],
+            length: 34_852,
+        },
+    },
+    Copy {
+        name: "changes beside a piece of many rows",
+        text: "",
+        acts: &[
+            (Add(3000), Done),
+            (Commit, Done),
+            (Begin, Done),
+            (Piece(1024), More),
+            (End(5, 5), Done),
+            (Add(10), Done),
+            (Finish, Generation(2)),
+        ],
+        // row 5 is copied, and ended in the copy
+        want: Want {
+            generation: 2,
+            rows: &[(1, 4), (6, 3010)],
+            next: 3011,
+            marks: &[],
+            length: 66_274,
+        },
+    },
+    Copy {
+        name: "ends on both sides of the cursor",
+        text: "",
+        acts: &[
+            (Add(10), Done),
+            (Commit, Done),
+            (Begin, Done),
+            (Piece(4), More),
+            (End(2, 2), Done),
+            (End(7, 7), Done),
+            (Add(1), Done),
+            (Commit, Done),
+            (Piece(4), More),
+            (End(5, 5), Done),
+            (Finish, Generation(2)),
+            (Add(1), Done),
+            (Commit, Done),
+        ],
+        // rows 2 and 5 are copied, row 7 is not
+        want: Want {
+            generation: 2,
+            rows: &[(1, 1), (3, 4), (6, 6), (8, 12)],
+            next: 13,
+            marks: &[],
+            length: 310,
+        },
+    },
+    Copy {
+        name: "marks",
+        text: "",
+        acts: &[
+            (Forward(4, Mode::A, 9), Done),
+            (Forward(63, Mode::W, 4_611_686_018_427_387_903), Done),
+            (Add(1), Done),
+            (Commit, Done),
+            (Begin, Done),
+            (Piece(2), More),
+            (Forward(4, Mode::A, 12), Done),
+            (End(1, 1), Done),
+            (Forward(0, Mode::A, 1), Done),
+            (Finish, Generation(2)),
+        ],
+        want: Want {
+            generation: 2,
+            rows: &[(2, 5)],
+            next: 6,
+            marks: &[(0, 1), (4, 12), (63, 4_611_686_018_427_387_903)],
+            length: 194,
+        },
+    },
+    Copy {
+        name: "two copies",
+        text: "",
+        acts: &[
+            (Add(6), Done),
+            (Commit, Done),
+            (Begin, Done),
+            (Piece(3), More),
+            (Finish, Generation(2)),
+            (Add(1), Done),
+            (End(2, 2), Done),
+            (Commit, Done),
+            (Begin, Done),
+            (Piece(3), More),
+            (End(1, 1), Done),
+            (Add(1), Done),
+            (Finish, Generation(3)),
+        ],
+        want: Want {
+            generation: 3,
+            rows: &[(3, 8)],
+            next: 9,
+            marks: &[],
+            length: 208,
+        },
+    },
+];
+
+#[test]
+fn copies_are_read_again(rt: HostRuntime) {
+    let alloc = rt.alloc();
+    for copy in &COPIES {
+        let mut twin = Twin::open(&rt, alloc, MemoryDisk::new(alloc), copy.text);
+        twin.play(&rt, copy.acts, copy.name);
+        twin.assert_is(&rt, &copy.want, copy.name);
+        assert!(rt; !twin.store().pending(), "{}", copy.name);
+        let twin = Twin::open(&rt, alloc, twin.give_back(), copy.text);
+        twin.assert_is(&rt, &copy.want, copy.name);
+    }
+}
+
+// Calls on a new table, and how many device calls, writes, syncs and faults each of them makes.
+static CALLS: [(Act, Answer, [u64; 4]); 12] = [
+    (Begin, Done, [4, 2, 1, 0]),
+    // no row, and no end that waits
+    (Piece(5), Last, [0, 0, 0, 0]),
+    (Add(3), Done, [0, 0, 0, 0]),
+    (Piece(2), More, [1, 1, 0, 0]),
+    (Piece(2), Last, [1, 1, 0, 0]),
+    (Piece(2), Last, [0, 0, 0, 0]),
+    (End(1, 1), Done, [0, 0, 0, 0]),
+    // the end alone
+    (Piece(2), Last, [1, 1, 0, 0]),
+    (Finish, Generation(2), [5, 3, 2, 0]),
+    (Commit, Done, [0, 0, 0, 0]),
+    // the gate of the old side is open
+    (Begin, Done, [4, 2, 1, 0]),
+    (Finish, Generation(3), [5, 3, 2, 0]),
+];
+
+#[test]
+fn copies_make_few_device_calls(rt: HostRuntime) {
+    let alloc = rt.alloc();
+    let mut twin = Twin::open(&rt, alloc, MemoryDisk::new(alloc), "");
+    for (place, (act, want, calls)) in CALLS.iter().enumerate() {
+        let before = counts(twin.store().disk());
+        assert_eq!(rt; twin.make(&rt, *act), *want, "{place}");
+        assert_eq!(rt;
+            added(before, counts(twin.store().disk())),
+            *calls,
+            "{place}"
+        );
+    }
+}
+
+// What is done until a copy is abandoned. The first four calls of the disk are those of the beginning, then each piece
+// makes one, and the finish three before the gate's write.
+static ABANDONED: [(Act, Answer); 5] = [
+    (Begin, Done),
+    (Piece(4), More),
+    (End(2, 2), Done),
+    (Piece(4), More),
+    (Finish, Generation(2)),
+];
+
+// What is done then.
+static BEGUN_AGAIN: [(Act, Answer); 7] = [
+    (Piece(2), More),
+    (Add(1), Done),
+    (End(1, 1), Done),
+    (Commit, Done),
+    (Finish, Generation(2)),
+    (Add(1), Done),
+    (Commit, Done),
+];
+
+const BEGUN_AGAIN_GIVES: Want = Want {
+    generation: 2,
+    rows: &[(3, 12)],
+    next: 13,
+    marks: &[],
+    length: 301,
+};
+
+// The call of the disk that fails, which of the calls above it is in, and how many device calls the next beginning
+// makes: byte 0 is not written again once a write of it was synced.
+static AGAIN: [(u64, usize, u64); 9] = [
+    (1, 0, 4),
+    (2, 0, 4),
+    (3, 0, 2),
+    (4, 0, 2),
+    (5, 1, 2),
+    (6, 3, 2),
+    (7, 4, 2),
+    (8, 4, 2),
+    (9, 4, 2),
+];
+
+#[test]
+fn a_copy_that_was_abandoned_is_begun_again(rt: HostRuntime) {
+    let alloc = rt.alloc();
+    for (call, place, calls) in &AGAIN {
+        // opening makes 13 calls, and the commit 4
+        let mut numbers = Numbers::new(alloc);
+        assert!(rt; numbers.push(call.saturating_add(17)).is_ok());
+        let disk = FailingDisk::new(MemoryDisk::new(alloc), numbers);
+        let mut twin = Twin::open(&rt, alloc, disk, "");
+        let name = "begun again";
+        twin.play(&rt, &[(Add(10), Done), (Commit, Done)], name);
+        let fault = twin.play_to_fault(&rt, &ABANDONED);
+        assert_eq!(rt; fault, Some((*place, Fault(Abandoned))), "{call}");
+        assert_eq!(rt; twin.store().copying(), None, "{call}");
+        if *place < 2 {
+            assert_eq!(rt; twin.make(&rt, End(2, 2)), Done);
+        }
+        let before = twin.store().disk().inner().calls();
+        assert_eq!(rt; twin.make(&rt, Begin), Done, "{call}");
+        let after = twin.store().disk().inner().calls();
+        assert_eq!(rt; after.saturating_sub(before), *calls, "{call}");
+        twin.play(&rt, &BEGUN_AGAIN, name);
+        let twin = Twin::open(&rt, alloc, twin.give_back(), "");
+        twin.assert_is(&rt, &BEGUN_AGAIN_GIVES, name);
+    }
+}
