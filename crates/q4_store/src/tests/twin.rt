@@ -1,7 +1,10 @@
-ghost use Rattle.std.specs.Prelude.{◌≤◌, length};
+ghost use Rattle.std.specs.Prelude.{◌≡◌};
 ghost use Rattle.std.specs.Option.{ForSome};
 ghost use Rattle.q4_value.specs.Row.{Fits};
 ghost use Rattle.q4_table.specs.Adding.{IsOrigin};
+ghost use Rattle.q4_store.specs.Content.{Content, table_of};
+ghost use Rattle.q4_store.specs.Copied.{without_owners};
+ghost use Rattle.q4_store.specs.Store.{StandsFor};
 
 use super::acts::{Act, Answer, Want};
 use super::record_size;
@@ -206,6 +209,7 @@ impl<D: Disk> Twin<D> {
         assert!(rt; self.whole);
         assert!(rt; most >= 1);
         assert!(rt; self.store.copying().is_some());
+        nobody_owns(&self.store, &self.table);
         match self.store.compact_piece(&self.table, most) {
             Ok(false) => Answer::More,
             Ok(true) => Answer::Last,
@@ -216,6 +220,7 @@ impl<D: Disk> Twin<D> {
     fn finish(&mut self, rt: &impl Abort) -> Answer {
         assert!(rt; self.whole);
         assert!(rt; self.store.copying().is_some());
+        nobody_owns(&self.store, &self.table);
         match self.store.compact_finish(&self.table) {
             Ok(generation) => Answer::Generation(generation),
             Err(CopyFault::Unsure) => {
@@ -226,6 +231,11 @@ impl<D: Disk> Twin<D> {
         }
     }
 }
+
+// A law: nobody owns a row of the table that a store stands for.
+fn nobody_owns<D: Disk>(_store: &Store<D>, _table: &Table)
+    ensures { (content : Content) → StandsFor D.told _store.now content → table_of content ≡ _table.now → table_of content ≡ without_owners _table.now }
+{}
 
 fn check_origin(rt: &impl Abort, origin: Option<Origin>)
     ensures { ForSome origin IsOrigin }
