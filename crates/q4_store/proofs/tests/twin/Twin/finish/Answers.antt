@@ -8,7 +8,7 @@ use Rattle.q4_store.proofs.tests.twin.Twin.finish.Goals as goal
 -- What holds for each progress of a copy holds where there is one.
 under_way : (P : Type 0) (copy : Option Progress) (Q : Progress → Type 0) → IsSome copy → ForSome copy Q → ((p : Progress) → Q p → P) → P
 under_way P (Some p) Q some each then = then p (each p refl)
-under_way P None Q some each then = absurd some
+under_way P None Q some each then = absurd (cc some)
 
 pub invariant_of-self : goal.invariant_of-self
 invariant_of-self g c whole =
