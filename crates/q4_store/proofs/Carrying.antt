@@ -1,7 +1,6 @@
 -- A copy that is under way, as changes are appended.
-use Rattle.std.proofs.Common.{◌≡◌, ◌≢◌, ℕ, ◌+◌, ◌*◌, ◌<◌, ◌≤◌, Bool, true, false, cond, not, eqb, ltb, List, [], ◌∷◌, ◌++◌, None, Some, Option, length, refl, sym, ap, subst, ◌∙◌, append_assoc, append-nil, length-append, inl, inr, IsTrue, arith}
-use Rattle.std.specs.List.{filter, sum_by, flat_map}
-use Rattle.std.specs.Option.{ForSome}
+use Rattle.std.proofs.Common.{◌≡◌, ℕ, ◌+◌, ◌*◌, ◌<◌, ◌≤◌, not, eqb, ltb, List, [], ◌∷◌, ◌++◌, None, Some, Option, length, sym, ap, subst, ◌∙◌, append_assoc, length-append, inl, inr, arith}
+use Rattle.std.specs.List.{sum_by}
 use Rattle.std.proofs.lemmas.Bool.{cases_lt, le-leb, cond-true, cond-false, lt-ltb, le-ltb}
 use Rattle.std.proofs.lemmas.List.{flat_map_more}
 use Rattle.std.proofs.lemmas.List.Elements.{filter-append}
@@ -14,7 +13,7 @@ use Rattle.q4_table.specs.TableState.{TableState}
 use Rattle.q4_table.specs.Rows.{without_row, IsThere}
 use Rattle.q4_table.specs.Adding.{add_row}
 use Rattle.q4_table.specs.Valid.{IsValidTable}
-use Rattle.q4_record.specs.declared.head.Head.TheVariants.{Insert, End}
+use Rattle.q4_record.specs.declared.head.Head.TheVariants.{Insert}
 use Rattle.q4_record.specs.Record.{Record, record_bytes, records_bytes}
 use Rattle.q4_record.specs.declared.replay.Replay.{Replay}
 use Rattle.q4_record.specs.Replay.{replays, at_base}
@@ -22,13 +21,13 @@ use Rattle.q4_disk.specs.Told.{Told}
 use Rattle.q4_store.specs.declared.copying.Progress.{Progress}
 use Rattle.q4_store.specs.Content.{Content, row_added, row_ended}
 use Rattle.q4_store.specs.Lengths.{change_size}
-use Rattle.q4_store.specs.Copied.{is_from, rows_from, rows_below, row_cost, compact_size, copy_length, IsCopied}
-use Rattle.q4_store.specs.Store.{Stored, CopyStands, StandsFor, ends_with, pending_length, batch_size, length_of}
+use Rattle.q4_store.specs.Copied.{is_from, rows_from, rows_below, row_cost, copy_length, IsCopied}
+use Rattle.q4_store.specs.Store.{Stored, CopyStands, StandsFor, ends_with, pending_length}
 use Rattle.q4_store.proofs.Commits.{some_bytes}
 use Rattle.q4_store.proofs.Lengths.{change_length, batch_size_more, pending_more}
 use Rattle.q4_store.proofs.Parting.{filters_swap, there_below}
 use Rattle.q4_store.proofs.CopyRecords.{copy_inserted, copy_ended_above, copy_ended_below}
-use Rattle.q4_store.proofs.Weights.{one_mark_more, fewer, compact_added, compact_removed}
+use Rattle.q4_store.proofs.Weights.{one_mark_more, fewer}
 
 -- the store is longer by the change at least
 pub longer : (waiting records : List ℕ) (change : Record) → records ≡ waiting ++ record_bytes change → pending_length waiting + change_size change ≤ pending_length records

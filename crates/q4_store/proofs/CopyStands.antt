@@ -1,10 +1,7 @@
 -- A store while the other side is written on.
-use Rattle.std.proofs.Common.{◌≡◌, ℕ, ◌+◌, ◌*◌, ◌<◌, ◌≤◌, Bool, true, false, List, [], ◌∷◌, ◌++◌, None, Some, Option, length, replicate, refl, sym, ap, subst, ◌∙◌, append-nil, inl, inr, IsTrue, arith}
+use Rattle.std.proofs.Common.{◌≡◌, ℕ, ◌<◌, Bool, true, false, List, [], ◌∷◌, None, Some, Option, replicate, refl, sym, ap, subst, ◌∙◌, append-nil, inl, inr, IsTrue, arith}
 use Rattle.std.specs.Option.{ForSome}
-use Rattle.q4_value.specs.declared.column.Column.{Column}
-use Rattle.q4_table.specs.TableState.{TableState}
-use Rattle.q4_record.specs.Record.{Record, records_bytes}
-use Rattle.q4_record.specs.Side.{base_at, gate_of, generation_of, generation_limit, Side as IsSide}
+use Rattle.q4_record.specs.Side.{base_at, gate_of, generation_limit, Side as IsSide}
 use Rattle.q4_disk.specs.declared.disk.Side.{Side}
 use Rattle.q4_disk.specs.declared.disk.Side.TheVariants.{A, B}
 use Rattle.q4_disk.specs.Told.{Sides, Told}
@@ -13,12 +10,11 @@ use Rattle.q4_disk.specs.Time.{LeavesOnly, OtherStays}
 use Rattle.q4_disk.proofs.Moments.{weaker}
 use Rattle.q4_store.specs.declared.copying.Progress.{Progress}
 use Rattle.q4_store.specs.Reading.{IsBehind, ReadsAs}
-use Rattle.q4_store.specs.Parts.{IsShut, IsBlank, IsSpare, IsReady}
+use Rattle.q4_store.specs.Parts.{IsBlank, IsReady}
 use Rattle.q4_store.specs.Content.{Content, table_of, IsPrefix}
 use Rattle.std.specs.List.{sum_by}
-use Rattle.q4_record.specs.Schema.{schema_bytes}
-use Rattle.q4_store.specs.Copied.{rows_from, row_cost, compact_size, copy_length, HasCopied}
-use Rattle.q4_store.specs.Store.{Stored, StandsFor, CopyStands, IsSettled, length_of}
+use Rattle.q4_store.specs.Copied.{rows_from, row_cost}
+use Rattle.q4_store.specs.Store.{Stored, StandsFor, CopyStands, IsSettled}
 use Rattle.q4_store.proofs.Lifting.{Holds, side_holds}
 use Rattle.q4_store.proofs.Parting.{rise_from, all_from}
 use Rattle.q4_store.proofs.CopyRecords.{copy_begun}

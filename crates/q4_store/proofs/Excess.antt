@@ -1,8 +1,8 @@
 -- How much longer than the least a copy that is under way will be.
-use Rattle.std.proofs.Common.{◌≡◌, ℕ, ◌+◌, ◌*◌, ◌<◌, ◌≤◌, Bool, true, false, cond, not, eqb, ltb, List, [], ◌∷◌, ◌++◌, None, Some, Option, length, map, refl, sym, ap, subst, ◌∙◌, length-append, inl, inr, IsSome, arith}
-use Rattle.std.specs.List.{filter, sum_by, flat_map}
+use Rattle.std.proofs.Common.{◌≡◌, ℕ, ◌+◌, ◌*◌, ◌<◌, ◌≤◌, Bool, true, cond, not, eqb, ltb, List, [], ◌∷◌, ◌++◌, None, Some, Option, length, map, refl, sym, ap, subst, ◌∙◌, length-append, inl, inr, IsSome, arith}
+use Rattle.std.specs.List.{sum_by}
 use Rattle.std.specs.Option.{option_map}
-use Rattle.std.proofs.lemmas.Bool.{cases_lt, eq-eqb, ne_eqb, eqb-true, ltb-true, lt-ltb, le-ltb, le-leb, leb-true, cond-true, cond-false}
+use Rattle.std.proofs.lemmas.Bool.{cases_lt, eq-eqb, ne_eqb, lt-ltb, le-ltb, le-leb, leb-true, cond-true, cond-false}
 use Rattle.std.proofs.lemmas.List.Elements.{All-weaker, filter-append, filter_passes}
 use Rattle.std.proofs.lemmas.List.Concat.{flat_map-append}
 use Rattle.std.proofs.lemmas.List.Sums.{sum_by-append, sum_by-cons}
@@ -12,7 +12,7 @@ use Rattle.q4_value.specs.Row.{row_size}
 use Rattle.q4_table.specs.declared.origin.Origin.{Origin}
 use Rattle.q4_table.specs.declared.rows.StoredRow.{StoredRow}
 use Rattle.q4_table.specs.TableState.{TableState}
-use Rattle.q4_table.specs.Rows.{numbers_of, without_row, row_in, values_in, IsThere, bytes_of}
+use Rattle.q4_table.specs.Rows.{without_row, row_in, values_in, bytes_of}
 use Rattle.q4_table.specs.Adding.{add_row}
 use Rattle.q4_table.specs.Valid.{IsValidTable}
 use Rattle.q4_table.proofs.Validity.{valid-removed, bytes-removed}
@@ -25,7 +25,7 @@ use Rattle.q4_disk.specs.Told.{Told}
 use Rattle.q4_store.specs.declared.copying.Progress.{Progress}
 use Rattle.q4_store.specs.Content.{Content, table_of, row_ended, row_added, with_change}
 use Rattle.q4_store.specs.Copied.{without_owners, is_from, rows_from, rows_below, row_cost, cursor_after, taken, compact_size, copy_bytes}
-use Rattle.q4_store.specs.Store.{Stored, StandsFor, TakesRow, CopyStands, IsLongerBy, finished_length, end_extra, ends_with, length_of}
+use Rattle.q4_store.specs.Store.{Stored, StandsFor, TakesRow, IsLongerBy, finished_length, end_extra, ends_with}
 use Rattle.q4_store.proofs.Appending.{gone}
 use Rattle.q4_store.proofs.Changes.{added_is, ended_is}
 use Rattle.q4_store.proofs.CopyStands.{some_same}

@@ -1,6 +1,6 @@
 -- A copy that is finished: its bytes with an open gate are a side, and the store that has it.
-use Rattle.std.proofs.Common.{◌≡◌, ◌≢◌, ℕ, ◌+◌, ◌-◌, ◌*◌, ◌^◌, ◌<◌, ◌≤◌, ◌⊎◌, Bool, true, false, List, [], ◌∷◌, ◌++◌, None, Some, Option, length, map, take, drop, replicate, refl, sym, ap, subst, ◌∙◌, append_assoc, append-nil, length-append, inl, inr, IsTrue, arith}
-use Rattle.std.specs.List.{All, sum_by, flat_map}
+use Rattle.std.proofs.Common.{◌≡◌, ℕ, ◌+◌, ◌*◌, ◌≤◌, ◌⊎◌, false, List, [], ◌∷◌, ◌++◌, None, Some, length, map, replicate, refl, sym, ap, subst, ◌∙◌, append_assoc, append-nil, length-append, inl, inr, IsTrue, arith}
+use Rattle.std.specs.List.{sum_by}
 use Rattle.std.specs.Prelude.{◌==◌}
 use Rattle.std.proofs.lemmas.List.{take_all, drop_all, drop_at}
 use Rattle.std.proofs.lemmas.List.Concat.{flat_map-append, flat_map-cons}
@@ -8,27 +8,25 @@ use Rattle.q4_value.specs.Names.{AreColumns}
 use Rattle.q4_value.specs.declared.column.Column.{Column}
 use Rattle.q4_table.specs.declared.marks.Mark as marks
 use Rattle.q4_table.specs.TableState.{TableState}
-use Rattle.q4_record.specs.declared.replay.Stage.TheVariants as stage
 use Rattle.q4_record.specs.Record.{Record, record_bytes, records_bytes}
 use Rattle.q4_record.specs.Schema.{schema_bytes}
-use Rattle.q4_record.specs.Side.{base_at, side_limit, generation_limit, generation_of, IsOpen, IsBase, HasRoom, Side as IsSide}
+use Rattle.q4_record.specs.Side.{base_at, side_limit, generation_limit, generation_of, IsBase, HasRoom, Side as IsSide}
 use Rattle.q4_record.specs.Written.{row_record, mark_record, next_record, side_bytes}
 use Rattle.q4_record.proofs.WrittenSides.{base_side}
 use Rattle.q4_disk.specs.declared.disk.Side.{Side}
 use Rattle.q4_disk.specs.declared.disk.Side.TheVariants.{A, B}
 use Rattle.q4_disk.specs.Told.{Sides, Told}
-use Rattle.q4_disk.specs.Images.{on, other, size, written, Within}
+use Rattle.q4_disk.specs.Images.{on, other, written, Within}
 use Rattle.q4_disk.specs.Time.{LeavesOnly, OtherStays}
 use Rattle.q4_disk.proofs.Ranges.{written_at}
 use Rattle.q4_store.specs.declared.copying.Progress.{Progress}
 use Rattle.q4_store.specs.Reading.{HasMagic, IsBehind, Reads, ReadsAs}
 use Rattle.q4_store.specs.Parts.{IsShut, IsReady, IsFilled, opened}
 use Rattle.q4_store.specs.Looking.{header_bytes}
-use Rattle.q4_store.specs.Content.{Content, table_of, all_committed, IsPrefix, IsPrefixOrNew}
-use Rattle.q4_store.specs.Copied.{rows_from, rest_records, row_cost, IsCopied, IsFinished, copy_length, copy_bytes, piece_bytes, HasCopied}
+use Rattle.q4_store.specs.Content.{Content, table_of, all_committed, IsPrefixOrNew}
+use Rattle.q4_store.specs.Copied.{rows_from, rest_records, row_cost, IsFinished, copy_length, copy_bytes, piece_bytes}
 use Rattle.q4_store.specs.Store.{Stored, StandsFor, CopyStands, IsRest, IsSettled, length_of, pending_length}
-use Rattle.q4_store.proofs.Lengths.{change_length}
-use Rattle.q4_store.proofs.Lifting.{Holds, side_holds, columns_stay}
+use Rattle.q4_store.proofs.Lifting.{Holds, columns_stay}
 use Rattle.q4_store.proofs.Commits.{settled_reads, settled_holds}
 use Rattle.q4_store.proofs.CopyRecords.{copy_finished}
 use Rattle.q4_store.proofs.CopyStands.{current_stays, prefix_as}

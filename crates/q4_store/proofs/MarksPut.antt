@@ -1,5 +1,5 @@
 -- Marks that are put one after the other, by rising source.
-use Rattle.std.proofs.Common.{◌≡◌, ℕ, ◌+◌, ◌<◌, ◌≤◌, Bool, true, false, cond, eqb, ltb, List, [], ◌∷◌, ◌++◌, None, Some, Option, map, refl, sym, ap, subst, ◌∙◌, append_assoc, append-nil, inl, inr, arith}
+use Rattle.std.proofs.Common.{◌≡◌, ℕ, ◌+◌, ◌<◌, ◌≤◌, Bool, true, false, cond, eqb, ltb, List, [], ◌∷◌, ◌++◌, None, Some, Option, map, refl, sym, ap, ◌∙◌, append_assoc, append-nil, inl, inr, arith}
 use Rattle.std.specs.List.{All, filter, find}
 use Rattle.std.specs.Option.{option_map}
 use Rattle.std.specs.Prelude.{unwrap_or}
@@ -11,7 +11,7 @@ use Rattle.q4_table.specs.declared.marks.Mark.{Mark}
 use Rattle.q4_table.specs.Marks.{mark_of}
 use Rattle.q4_table.specs.Valid.{IsMark, SourcesRise}
 use Rattle.q4_record.specs.declared.head.Head.TheVariants as head
-use Rattle.q4_record.specs.Record.{Record, record_bytes, records_bytes}
+use Rattle.q4_record.specs.Record.{record_bytes, records_bytes}
 use Rattle.q4_record.specs.Written.{mark_record}
 use Rattle.q4_record.proofs.WrittenBases.{kept, dropped}
 

@@ -1,11 +1,10 @@
 -- A copy does not see who owns a row.
 use Rattle.std.proofs.Common.{◌≡◌, ℕ, ◌+◌, Bool, true, false, cond, List, [], ◌∷◌, ◌++◌, map, take, refl, sym, ap, subst, ◌∙◌, arith}
-use Rattle.std.specs.List.{filter, sum_by}
+use Rattle.std.specs.List.{sum_by}
 use Rattle.std.proofs.lemmas.List.{take-map}
 use Rattle.std.proofs.lemmas.List.Sums.{sum_by-cons}
 use Rattle.q4_table.specs.declared.rows.StoredRow.{StoredRow}
 use Rattle.q4_table.specs.TableState.{TableState}
-use Rattle.q4_record.specs.Record.{Record}
 use Rattle.q4_record.specs.Replay.{at_batches}
 use Rattle.q4_record.specs.Schema.{IsSchema}
 use Rattle.q4_record.specs.Written.{row_record, mark_record, next_record}

@@ -1,6 +1,6 @@
 -- A piece of a copy: what it makes of the records and bytes that the copy has.
-use Rattle.std.proofs.Common.{◌≡◌, ◌≢◌, ℕ, ◌+◌, ◌*◌, ◌<◌, ◌≤◌, Bool, true, false, eqb, List, [], ◌∷◌, ◌++◌, None, Some, Option, length, map, take, replicate, refl, sym, ap, subst, ◌∙◌, append_assoc, append-nil, length-append, IsTrue, arith}
-use Rattle.std.specs.List.{All, sum_by, flat_map}
+use Rattle.std.proofs.Common.{◌≡◌, ℕ, ◌+◌, ◌≤◌, Bool, true, false, List, [], ◌∷◌, ◌++◌, Some, Option, length, map, replicate, refl, sym, ap, subst, ◌∙◌, append_assoc, append-nil, length-append, IsTrue, arith}
+use Rattle.std.specs.List.{sum_by}
 use Rattle.std.specs.Prelude.{◌==◌}
 use Rattle.std.proofs.lemmas.Bool.{ne_eqb, eq-eqb}
 use Rattle.std.proofs.lemmas.List.Concat.{flat_map-cons, flat_map-append}
@@ -21,7 +21,7 @@ use Rattle.q4_store.specs.declared.copying.Progress.{Progress}
 use Rattle.q4_store.specs.Reading.{ReadsAs}
 use Rattle.q4_store.specs.Parts.{IsShut, IsReady}
 use Rattle.q4_store.specs.Content.{Content, table_of, IsPrefix}
-use Rattle.q4_store.specs.Copied.{rows_below, rows_from, row_cost, cursor_after, taken, IsCopied, copy_length, copy_bytes, piece_bytes, HasCopied}
+use Rattle.q4_store.specs.Copied.{rows_below, rows_from, row_cost, cursor_after, taken, IsCopied, copy_length, copy_bytes, piece_bytes}
 use Rattle.q4_store.specs.Store.{Stored, StandsFor, CopyStands, length_of}
 use Rattle.q4_store.proofs.Lengths.{change_length}
 use Rattle.q4_store.proofs.Parting.{parted, below_after}

@@ -1,23 +1,21 @@
 -- How long records and sides are, by the tables that they lead to.
-use Rattle.std.proofs.Common.{◌≡◌, ℕ, ◌+◌, ◌*◌, ◌≤◌, Bool, true, false, cond, List, [], ◌∷◌, ◌++◌, None, Some, Option, length, map, take, drop, not, eqb, ltb, refl, sym, ap, subst, ◌∙◌, arith}
+use Rattle.std.proofs.Common.{◌≡◌, ℕ, ◌+◌, ◌*◌, ◌≤◌, Bool, true, false, cond, List, [], ◌∷◌, None, Some, Option, length, drop, not, eqb, ltb, refl, sym, ap, ◌∙◌, arith}
 use Rattle.std.specs.Int.{w32, to_be_bytes}
 use Rattle.std.proofs.lemmas.Bool.{ltb-true, le-ltb}
-use Rattle.std.specs.List.{All, filter, sum_by, flat_map}
+use Rattle.std.specs.List.{filter, sum_by}
 use Rattle.std.proofs.lemmas.List.{length-append, length-take}
-use Rattle.std.proofs.lemmas.List.Elements.{filter-append}
-use Rattle.std.proofs.lemmas.List.Filters.{length-filter_both, sum_by-filter_both}
+use Rattle.std.proofs.lemmas.List.Filters.{sum_by-filter_both}
 use Rattle.std.proofs.lemmas.List.Concat.{flat_map-cons}
 use Rattle.std.proofs.lemmas.List.Sums.{sum_by-append, sum_by-cons}
 use Rattle.q4_value.specs.declared.column.Column.{Column}
 use Rattle.q4_value.specs.declared.row.Value.{Value}
-use Rattle.q4_value.specs.Row.{row_size}
 use Rattle.q4_table.specs.declared.marks.Mark as marks
 use Rattle.q4_table.specs.declared.origin.Origin.{Origin}
 use Rattle.q4_table.specs.declared.rows.StoredRow.{StoredRow}
-use Rattle.q4_table.specs.TableState.{TableState, new_table}
+use Rattle.q4_table.specs.TableState.{TableState}
 use Rattle.q4_table.specs.Marks.{with_mark}
 use Rattle.q4_table.specs.Rows.{without_row}
-use Rattle.q4_table.specs.Adding.{add_row, with_origin}
+use Rattle.q4_table.specs.Adding.{add_row}
 use Rattle.q4_record.specs.declared.head.Head.{Head}
 use Rattle.q4_record.specs.declared.head.Head.TheVariants.{Insert, End, Mark, Next}
 use Rattle.q4_record.specs.declared.replay.Replay.{Replay}
@@ -26,12 +24,11 @@ use Rattle.q4_record.specs.declared.replay.Stage.TheVariants as stage
 use Rattle.q4_record.specs.Record.{Record, record_bytes, records_bytes}
 use Rattle.q4_record.specs.Replay.{table_after, stage_after, replayed, replays, at_base, at_batches}
 use Rattle.q4_record.specs.Schema.{schema_bytes}
-use Rattle.q4_record.specs.Side.{base_at, base_length_of, base_of, batch_bytes, batches_bytes, after_batches, Side}
-use Rattle.q4_record.specs.Written.{row_record, mark_record, next_record}
+use Rattle.q4_record.specs.Side.{base_at, base_length_of, batch_bytes, batches_bytes, after_batches, Side}
 use Rattle.q4_store.specs.Lengths.{change_size}
 use Rattle.q4_store.proofs.Lengths.{change_length}
 use Rattle.q4_store.proofs.Lifting.{columns_stay}
-use Rattle.q4_store.specs.Copied.{is_from, rows_from, rest_records, row_cost, compact_size}
+use Rattle.q4_store.specs.Copied.{row_cost, compact_size}
 
 -- what a table's rows and marks take at least
 abbrev pub weight : TableState → ℕ

@@ -1,10 +1,9 @@
 -- What a copy of a table has while it is under way: the rows below its cursor, as they are now.
-use Rattle.std.specs.Prelude.{◌≡◌, ◌≢◌, ◌≤◌, ◌+◌, ◌*◌, ℕ, Bool, true, false, List, [], ◌∷◌, ◌++◌, None, All, map, filter, length, take, nat_lt, nat_le, sum_by, replicate}
+use Rattle.std.specs.Prelude.{◌≡◌, ◌≢◌, ◌≤◌, ◌+◌, ◌*◌, ℕ, Bool, true, false, List, [], ◌∷◌, ◌++◌, None, map, filter, length, take, nat_lt, nat_le, sum_by, replicate}
 use Rattle.q4_value.specs.declared.column.Column.{Column}
 use Rattle.q4_value.specs.Row.{row_size}
 use Rattle.q4_table.specs.declared.rows.StoredRow.{StoredRow}
 use Rattle.q4_table.specs.TableState.{TableState}
-use Rattle.q4_record.specs.declared.replay.Replay.{Replay}
 use Rattle.q4_record.specs.declared.replay.Stage.TheVariants as stage
 use Rattle.q4_record.specs.Record.{Record, records_bytes}
 use Rattle.q4_record.specs.Replay.{replays, at_base, AllStand}

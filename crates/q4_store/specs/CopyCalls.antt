@@ -1,5 +1,5 @@
 -- The device calls of a piece and of a finish, and how they end.
-use Rattle.std.specs.Prelude.{◌≡◌, ◌==◌, ◌+◌, ◌-◌, ◌≤◌, ◌++◌, ℕ, Bool, true, false, List, map, length}
+use Rattle.std.specs.Prelude.{◌≡◌, ◌==◌, ◌+◌, ◌-◌, ◌≤◌, ℕ, Bool, true, false, List, map, length}
 use Rattle.q4_table.specs.TableState.{TableState}
 use Rattle.q4_record.specs.Side.{base_at}
 use Rattle.q4_record.specs.Written.{row_record}
@@ -12,7 +12,7 @@ use Rattle.q4_store.specs.declared.copying.Progress.{Progress}
 use Rattle.q4_store.specs.Looking.{header_bytes}
 use Rattle.q4_store.specs.Copied.{taken, piece_bytes}
 use Rattle.q4_store.specs.Store.{Stored, last_bytes}
-use Rattle.q4_store.specs.Device.{DeviceCall, AllMade, BrokeOff, extend_calls, fill_calls, switch_calls}
+use Rattle.q4_store.specs.Device.{DeviceCall, AllMade, BrokeOff, extend_calls, fill_calls}
 
 -- The count of faults rises where the disk failed, and stays where memory was wanted.
 abbrev pub CountsCopy : CopyFault → ℕ → ℕ → Type 0

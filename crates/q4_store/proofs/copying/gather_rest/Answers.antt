@@ -1,4 +1,4 @@
-use Rattle.std.proofs.Common.{◌≡◌, ◌==◌, ◌++◌, ℕ, [], ◌∙◌, ap}
+use Rattle.std.proofs.Common.{◌==◌, ◌++◌, ℕ, [], ◌∙◌, ap}
 use Rattle.q4_record.specs.declared.head.Head.TheVariants as head
 use Rattle.q4_record.specs.Record.{record_bytes}
 use Rattle.q4_record.specs.Side.{base_at}

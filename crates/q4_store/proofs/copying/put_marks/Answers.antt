@@ -1,4 +1,4 @@
-use Rattle.std.proofs.Common.{◌≡◌, ◌+◌, ℕ, List, refl, sym, ◌∙◌, ap, subst, arith}
+use Rattle.std.proofs.Common.{◌≡◌, ◌+◌, sym, subst, arith}
 use Rattle.q4_store.proofs.MarksPut.{PutSoFar, none_put, one_put, nothing_put, marks_put}
 use Rattle.q4_store.proofs.copying.put_marks.Goals as goal
 use Rattle.q4_store.proofs.copying.put_marks.Goals.{then-number-gt0+in_ok-put_mark, else-number-gt0}

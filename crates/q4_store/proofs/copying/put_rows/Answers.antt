@@ -1,4 +1,4 @@
-use Rattle.std.proofs.Common.{◌≡◌, ◌+◌, ◌-◌, ℕ, List, Some, None, sym, ◌∙◌, ap, subst, arith}
+use Rattle.std.proofs.Common.{◌≡◌, ◌+◌, ◌-◌, sym, ◌∙◌, ap, subst, arith}
 use Rattle.std.specs.Option.{option_copied}
 use Rattle.q4_value.specs.Row.{row_size, IsValue}
 use Rattle.std.specs.List.{All}

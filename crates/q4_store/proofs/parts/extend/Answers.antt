@@ -1,6 +1,6 @@
-use Rattle.std.proofs.Common.{List, [], ◌∷◌, IsTrue, refl, ◌∙◌, ap, inl}
+use Rattle.std.proofs.Common.{List, [], ◌∷◌, IsTrue, refl, inl}
 use Rattle.q4_value.specs.declared.column.Column.{Column}
-use Rattle.q4_disk.specs.Images.{on, Within}
+use Rattle.q4_disk.specs.Images.{Within}
 use Rattle.q4_disk.proofs.Moments.{Along, other_stepped}
 use Rattle.q4_store.specs.Reading.{ReadsAs}
 use Rattle.q4_store.specs.Device.DeviceCall.{Write}

@@ -1,6 +1,5 @@
-use Rattle.std.proofs.Common.{◌≡◌, ◌+◌, ◌++◌, Result, Ok, Err, OnOk, List, [], ◌∷◌, ℕ, IsTrue, length, refl, sym, ◌∙◌, ap, subst, take, drop, append-nil, arith}
+use Rattle.std.proofs.Common.{◌≡◌, ◌+◌, ◌++◌, Result, Ok, Err, OnOk, List, ℕ, length, ◌∙◌, ap, append-nil, arith}
 use Rattle.std.proofs.lemmas.List.{take_all, drop_all}
-use Rattle.q4_value.specs.declared.column.Column.{Column}
 use Rattle.q4_disk.specs.Images.{on, written}
 use Rattle.q4_store.proofs.Idle.{Shut, shut_idle, idle_start}
 use Rattle.q4_store.proofs.parts.extend_by.Goals as goal

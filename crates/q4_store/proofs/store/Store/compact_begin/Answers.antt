@@ -1,13 +1,12 @@
-use Rattle.std.proofs.Common.{◌≡◌, ◌<◌, ◌^◌, List, ℕ, [], IsTrue, false, Some, refl, sym, ◌∙◌, ap, subst}
+use Rattle.std.proofs.Common.{◌<◌, ◌^◌, IsTrue, false, Some, refl, sym, ◌∙◌, ap, subst}
 use Rattle.q4_disk.specs.Images.{on, other, Within}
 use Rattle.q4_disk.specs.Time.{LeavesOnly, OtherStays}
 use Rattle.q4_store.specs.Parts.{IsReady, IsBlank}
-use Rattle.q4_store.specs.Content.{Content, table_of, IsPrefix}
+use Rattle.q4_store.specs.Content.{table_of, IsPrefix}
 use Rattle.q4_store.specs.Device.{BrokeOff, close_calls}
 use Rattle.q4_store.specs.Store.{Stored, StandsFor}
 use Rattle.q4_store.proofs.CopyStands.{prefix_moments, stands_beside, begun_stands, none_copied}
 use Rattle.q4_store.proofs.Excess.{begun_longer}
-use Rattle.q4_store.proofs.store.Store.compact_begin.Given as given
 use Rattle.q4_store.proofs.store.Store.compact_begin.Goals as goal
 
 pub returns-in-Ok-clause-any_moment : goal.returns-in-Ok-clause-any_moment

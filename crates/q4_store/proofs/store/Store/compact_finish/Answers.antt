@@ -1,14 +1,11 @@
-use Rattle.std.proofs.Common.{◌≡◌, ◌≢◌, ◌==◌, ◌+◌, ◌-◌, ◌++◌, ◌≤◌, ◌*◌, List, ℕ, [], ◌∷◌, IsTrue, true, false, Some, None, Result, Ok, Err, IfErr, OnOk, length, refl, sym, ◌∙◌, ap, subst, arith}
-use Rattle.q4_table.specs.TableState.{TableState}
-use Rattle.q4_record.specs.Side.{base_at, side_limit, Side as IsSide}
-use Rattle.q4_disk.specs.Images.{on, other, size, Within}
-use Rattle.q4_store.specs.declared.fault.CopyFault.{CopyFault}
-use Rattle.q4_store.specs.Parts.{opened}
+use Rattle.std.proofs.Common.{◌≡◌, ◌==◌, ◌+◌, ◌-◌, ◌++◌, ◌≤◌, ◌*◌, List, ℕ, [], ◌∷◌, false, Some, None, Result, Ok, Err, IfErr, OnOk, length, refl, sym, ◌∙◌, ap, subst, arith}
+use Rattle.q4_record.specs.Side.{base_at, side_limit}
+use Rattle.q4_disk.specs.Images.{other, Within}
 use Rattle.q4_store.specs.Looking.{header_bytes}
 use Rattle.q4_store.specs.Content.{Content, table_of}
 use Rattle.q4_store.specs.Copied.{without_owners, piece_bytes, rest_records}
 use Rattle.q4_store.proofs.Owners.{schema_here, rest_unowned}
-use Rattle.q4_store.specs.Store.{Stored, StandsFor, IsRest, IsUnsure, IsLongerBy, last_bytes, length_of, finished_length}
+use Rattle.q4_store.specs.Store.{Stored, StandsFor, IsRest, IsUnsure, last_bytes, length_of, finished_length}
 use Rattle.q4_store.specs.Device.{DeviceCall, AllMade, fill_calls, switch_calls}
 use Rattle.q4_store.specs.CopyCalls.{FinishStops}
 use Rattle.q4_store.proofs.Excess.{finished_unowned}

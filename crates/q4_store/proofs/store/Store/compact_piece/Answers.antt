@@ -1,9 +1,9 @@
-use Rattle.std.proofs.Common.{◌≡◌, ◌+◌, ◌++◌, ◌≤◌, List, ℕ, [], IsTrue, true, false, Some, None, Option, length, map, refl, sym, ◌∙◌, ap, subst, arith}
+use Rattle.std.proofs.Common.{◌≡◌, ◌+◌, ◌++◌, List, ℕ, [], IsTrue, true, false, Some, None, length, map, refl, sym, ◌∙◌, ap, subst, arith}
 use Rattle.std.specs.Prelude.{◌==◌, ◌↔◌}
 use Rattle.q4_store.specs.declared.copying.Progress.{Progress}
 use Rattle.q4_value.specs.declared.column.Column.{Column}
 use Rattle.q4_table.specs.TableState.{TableState}
-use Rattle.q4_record.specs.Side.{base_at, side_limit}
+use Rattle.q4_record.specs.Side.{base_at}
 use Rattle.q4_record.specs.Written.{row_record}
 use Rattle.q4_disk.specs.Images.{on, other, size, Within}
 use Rattle.q4_disk.specs.Time.{LeavesOnly, OtherStays}

@@ -1,6 +1,5 @@
-use Rattle.std.proofs.Common.{◌≡◌, ◌+◌, ◌++◌, ◌≤◌, ◌<◌, ◌*◌, ◌⊎◌, List, ℕ, [], IsTrue, true, false, Some, None, Option, length, map, refl, sym, ◌∙◌, ap, subst, arith}
+use Rattle.std.proofs.Common.{◌≡◌, ◌+◌, ◌≤◌, ◌*◌, ◌⊎◌, List, ℕ, IsTrue, false, Some, None, length, refl, sym, ◌∙◌, ap, subst, arith}
 use Rattle.q4_value.specs.declared.column.Column.{Column}
-use Rattle.q4_table.specs.TableState.{TableState}
 use Rattle.q4_record.specs.Side.{side_limit, Side as IsSide}
 use Rattle.q4_disk.specs.Images.{on, other, size, Within}
 use Rattle.q4_disk.specs.Time.{LeavesOnly, OtherStays}

@@ -1,4 +1,4 @@
-use Rattle.std.proofs.Common.{◌≡◌, refl, arith}
+use Rattle.std.proofs.Common.{refl, arith}
 use Rattle.q4_store.proofs.Lengths.{adds_up, store_length}
 use Rattle.q4_store.proofs.store.Store.length.Goals as goal
 
