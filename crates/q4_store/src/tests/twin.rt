@@ -27,7 +27,9 @@ pub struct Twin<D: Disk> {
 }
 
 impl<D: Disk> Model for Twin<D> {
-    ghost use Rattle.std.specs.Prelude.{Bool, false, IsTrue};
+    ghost use Rattle.std.specs.Prelude.{◌≡◌, Bool, false, IsTrue};
+    ghost use Rattle.q4_store.specs.Content.{Content, table_of};
+    ghost use Rattle.q4_store.specs.Store.{StandsFor};
 
     ghost Value = { Bool };
 
