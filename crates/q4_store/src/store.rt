@@ -458,6 +458,7 @@ impl<D: Disk> Store<D> {
           copy = None;
           ends = [];
         })) }
+        ensures whole { OnOk result (self.new.failed ≡ false) }
         // It is no longer than before, and as long as the copy would be.
         ensures length { OnOk result (length_of self.new ≤ length_of self.old) }
         ensures exact { OnOk result ((content : Content) (extra : ℕ) → StandsFor D.told self.old content → table_of content ≡ without_owners table.now → IsLongerBy self.old (table_of content) extra
@@ -507,6 +508,7 @@ impl<D: Disk> Store<D> {
         ensures stands { OnOk result ((content : Content) → StandsFor D.told self.old content → IsRest self.old progress content last.now header.now → StandsFor D.told self.new (all_committed content)) }
         ensures finished { OnOk result (self.new ≡ record self.old { disk = self.new.disk; side = other self.old.side; end = progress.at + length last.now; generation = self.old.generation + 1; records = []; reserved = 0; known = false; copy = None; ends = [] }) }
         ensures generation { IfOk result (λ generation. generation ≡ self.old.generation + 1) }
+        ensures whole { OnOk result (self.new.failed ≡ false) }
         // No longer than before.
         ensures length { OnOk result (length_of self.new ≤ length_of self.old) }
         // A copy that is abandoned leaves what the store stands for.
