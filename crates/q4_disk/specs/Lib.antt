@@ -5,7 +5,6 @@ pub mod Calls
 pub mod Replay
 pub mod Memory
 pub mod Pieces
-pub mod Pairs
 pub mod inner
 pub mod Failing
 pub mod Stopping

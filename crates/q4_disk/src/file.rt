@@ -3,7 +3,8 @@ ghost use Rattle.q4_disk.specs.Calls.{no_calls};
 ghost use Rattle.q4_disk.specs.Untold.{untold};
 ghost use Rattle.q4_disk.specs.inner.Laws.{untold_reads};
 
-use crate::pair::PairDisk;
+use crate::pieces::{read_full, write_full};
+use crate::tally::{DeviceCall, Tally};
 use crate::{Disk, DiskFailed, Side};
 use std::fs::File;
 use std::marker::Model;
@@ -12,7 +13,9 @@ use std::marker::Model;
 /// content.
 #[derive(Drop)]
 pub struct FileDisk {
-    pair: PairDisk<File>,
+    a: File,
+    b: File,
+    tally: Tally,
 }
 
 impl Model for FileDisk {
@@ -20,7 +23,7 @@ impl Model for FileDisk {
 
     ghost Value = { Counts };
 
-    ghost view = { λ d. d.pair.tally };
+    ghost view = { λ d. d.tally };
 }
 
 impl FileDisk {
@@ -28,7 +31,16 @@ impl FileDisk {
         ensures { result ≡ no_calls }
     {
         FileDisk {
-            pair: PairDisk::new(a, b),
+            a,
+            b,
+            tally: Tally::new(),
+        }
+    }
+
+    fn file(&self, side: Side) -> &File {
+        match side {
+            Side::A => &self.a,
+            Side::B => &self.b,
         }
     }
 }
@@ -43,27 +55,52 @@ impl Disk for FileDisk {
     ghost reads_image = { λ d h. untold_reads h };
 
     fn size(&mut self, side: Side) -> Result<u64, DiskFailed> {
-        self.pair.size(side)
+        self.tally.count_call(DeviceCall::Size { side });
+        match self.file(side).metadata() {
+            Ok(found) => Ok(found.len()),
+            Err(_) => Err(self.tally.count_fault()),
+        }
     }
 
     fn read(&mut self, side: Side, at: u64, into: &mut [u8]) -> Result<usize, DiskFailed> {
-        self.pair.read(side, at, into)
+        let count = into.len() as u64;
+        self.tally.count_call(DeviceCall::Read { side, at, count });
+        match read_full(self.file(side), at, into) {
+            Ok(count) => Ok(count),
+            Err(_) => Err(self.tally.count_fault()),
+        }
     }
 
     fn write(&mut self, side: Side, at: u64, bytes: &[u8]) -> Result<(), DiskFailed> {
-        self.pair.write(side, at, bytes)
+        self.tally.count_write(side, at, bytes.len() as u64);
+        let wrote = match side {
+            Side::A => write_full(&mut self.a, at, bytes),
+            Side::B => write_full(&mut self.b, at, bytes),
+        };
+        match wrote {
+            Ok(()) => Ok(()),
+            Err(_) => Err(self.tally.count_fault()),
+        }
     }
 
     fn cut(&mut self, side: Side, length: u64) -> Result<(), DiskFailed> {
-        self.pair.cut(side, length)
+        self.tally.count_call(DeviceCall::CutTo { side, length });
+        match self.file(side).set_len(length) {
+            Ok(()) => Ok(()),
+            Err(_) => Err(self.tally.count_fault()),
+        }
     }
 
     /// It syncs the bytes and what is needed to find them, the length among it, and no times.
     fn sync(&mut self, side: Side) -> Result<(), DiskFailed> {
-        self.pair.sync(side)
+        self.tally.count_sync(side);
+        match self.file(side).sync_data() {
+            Ok(()) => Ok(()),
+            Err(_) => Err(self.tally.count_fault()),
+        }
     }
 
     fn faults(&self) -> u64 {
-        self.pair.faults()
+        self.tally.faults
     }
 }
