@@ -142,11 +142,16 @@ other_files play
 given '1 insert|jobs|1|a' '1 insert|t|1'
 wanted '1 ok|1' '1 err|21|no table|1'
 via=at_home ends 'play, the built-in table' 0 play
-for word in run play; do
-    other_files "$word"
-    : >"$here/tables.toml"
-    via=at_home ends "$word, an empty tables.toml" 0 "$word"
-done
+other_files run
+: >"$here/tables.toml"
+given 'insert|jobs|1|a' 'insert|t|1'
+wanted 'ok|1' 'err|21|no table|1'
+via=at_home ends 'run, an empty tables.toml' 0 run
+other_files play
+: >"$here/tables.toml"
+given '1 insert|jobs|1|a' '1 insert|t|1'
+wanted '1 ok|1' '1 err|21|no table|1'
+via=at_home ends 'play, an empty tables.toml' 0 play
 other_files run
 table t 'n int'
 given 'insert|jobs|1|a' 'insert|t|1'
@@ -710,7 +715,7 @@ ends 'a full history' 0 run
 
 yes '1 rowid' | head -n 1048571 >"$input"
 yes "1 $not_owner" | head -n 1048570 >"$answer"
-given '1 quit' '2' '2 end' '3 end'
+given '1 quit' '2' $'2 \xff' '3 end'
 wanted '1 err|70|history full|1048572' '1 bye' '2 err|70|history full|1048573'
 ends 'a history too full to open a session' 10 play
 
@@ -805,6 +810,12 @@ ends 'rows of 65,535 bytes' 0 run
 many_rows 4 65535 "\\\\\\\\" ''
 ends 'rows of 65,535 escaped bytes' 0 run
 
+table t "${columns_of_text[@]}"
+longest_row=$(sixteen_texts 65487 | sed 's/a/\\\\/g')
+given "$longest_row" 'select|t|9'
+wanted 'ok|1' 'rows|1' "row|1${longest_row#insert|t}"
+ends 'the longest row, each of its bytes escaped' 0 run
+
 # ---- Streams.
 
 given end
@@ -873,6 +884,11 @@ if ((memory < 20000)); then
     given '' '1 end'
     wanted '1 err|31|not in owner mode' '0 err|90|out of memory'
     via=in_little_memory ends 'play, no memory for a line' 9 play
+    for word in run play; do
+        definitions_of_size 1048576
+        wanted 'out of memory'
+        via=in_little_memory ends "$word, no memory for the definitions" 9 "$word"
+    done
 else
     skip 'no memory for a line' 'the program starts in no little memory'
 fi
@@ -882,17 +898,20 @@ opens() {
     local came=0
     if ! has strace || ! strace -qq -o "$room/trace" true 2>/dev/null; then
         skip "$1" 'there is no strace'
+        begin
         return 0
     fi
-    table t 'n int'
     wanted tables.toml
     (cd "$here" && exec strace -qq -f -e trace=open,openat,openat2,creat -o "$room/trace" "$program" "$2") \
         <"$input" >"$complaints" 2>&1 || came=$?
     sed -n 's/^[^"]*"\([^"]*\)".*/\1/p' "$room/trace" | grep -v -e '^/etc/ld\.' -e '/lib[^/]*\.so' >"$output" || true
     judge "$1" 0 "$came"
 }
-opens 'the files that a run opens' run
-opens 'the files that a play opens' play
+for word in run play; do
+    table t 'n int'
+    opens "$word, the files that are opened" "$word"
+    opens "$word, the files that are opened where there is no tables.toml" "$word"
+done
 
 # ---- Conversations: a client that waits for each reply is served.
 

@@ -5,16 +5,18 @@
 : "${top:?}" "${room:?}" "${here:?}" "${input:?}" "${answer:?}" "${output:?}" "${complaints:?}"
 
 copy="$room/a copy"
-mkdir -p "$room/tools" "$copy/crates/low/src" "$copy/crates/low/specs" "$copy/crates/q4/src" "$copy/crates/other/src"
+mkdir -p "$room/tools" "$copy/crates/low/src" "$copy/crates/low/specs" "$copy/crates/low/proofs" "$copy/crates/q4/src" \
+    "$copy/crates/other/src"
 cp "$top/run.sh" "$copy/run.sh"
 printf '# NAME: LIBRARY ..\nq4: low memchr\nother: low\nlow: itoa # a comment\n' >"$copy/crates.txt"
-touch "$copy/crates/low/src/lib.rt" "$copy/crates/low/specs/Low.antt" "$copy/crates/q4/src/main.rt" \
-    "$copy/crates/other/src/lib.rt"
+touch "$copy/crates/low/src/lib.rt" "$copy/crates/low/specs/Low.antt" "$copy/crates/low/proofs/Low.antt" \
+    "$copy/crates/q4/src/main.rt" "$copy/crates/other/src/lib.rt" "$room/KIT-ID"
 
 cat >"$room/tools/rt" <<'END'
 #!/usr/bin/env bash
 echo "$(basename "$PWD"): $*" >>"$CALLS"
 ! read -r line || echo "$line" >>"$CALLS"
+[[ ! -e src/edited.rt ]] || echo >src/edited.rt
 [[ ! -e src/open_goal.rt ]] || { echo 'one goal is open'; exit 1; }
 echo 'logic=proved'
 [[ $1 == run ]] || exit 0
@@ -67,6 +69,8 @@ said 'a second start says nothing' ''
 
 echo >"$copy/crates/low/specs/Low.antt"
 starts 'an edit of a crate below is built' "$all" 3
+touch "$copy/crates/low/proofs/Low.antt"
+starts 'an edit of a proof is built' "$all" 3
 touch "$copy/crates/q4/src/main.rt"
 starts 'an edit of the program is built' "$all" 3
 touch "$copy/crates/low/src/more.rt"
@@ -75,6 +79,8 @@ rm "$copy/crates/low/src/more.rt"
 starts 'a file less is built' "$all" 3
 touch "$copy/crates.txt"
 starts 'another list of crates is built' "$all" 3
+touch "$room/KIT-ID"
+starts 'another toolchain builds' "$all" 3
 touch "$copy/crates/other/src/lib.rt"
 starts 'a crate that the program does not stand on is not' '' 3
 
@@ -84,3 +90,8 @@ said 'a crate that is not proved shows why' '.*one goal is open
 run.sh: low was not built'
 rm "$copy/crates/low/src/open_goal.rt"
 starts 'a crate that is proved again' "$all" 3
+
+# The toolchain edits a crate while it builds it.
+touch "$copy/crates/low/src/edited.rt"
+starts 'an edit as it is built' "$all" 3
+starts 'an edit that came as it was built is built then' "$all" 3
