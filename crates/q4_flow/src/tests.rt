@@ -2,7 +2,7 @@ ghost use Rattle.std.specs.Prelude.{Some, length};
 
 use super::*;
 use std::alloc::Global;
-use std::io::{Error, ErrorKind, Read};
+use std::io::{Error, ErrorKind, Read, Write};
 use std::process::Abort;
 use std::test::*;
 use std::{fs, io};
@@ -244,6 +244,44 @@ fn standard_streams(rt: HostRuntime) {
     let mut sink = StdSink::new(room.as_mut_slice());
     assert_eq!(rt; put(&mut sink, b"ab"), Ok(()));
     assert_eq!(rt; put(&mut sink, b"c"), Err(WriteFailed));
+}
+
+// A writer of std that hands nothing on before it is flushed, and whose second flush fails.
+#[derive(Drop)]
+struct Holding {
+    holds: bool,
+    flushes: u8,
+}
+
+impl Write for Holding {
+    fn write(&mut self, buf: &[u8]) -> io::Result<usize> {
+        self.holds = true;
+        Ok(buf.len())
+    }
+
+    fn flush(&mut self) -> io::Result<()> {
+        self.flushes = self.flushes.saturating_add(1);
+        if self.flushes == 2 {
+            return Err(Error::from(ErrorKind::BrokenPipe));
+        }
+        self.holds = false;
+        Ok(())
+    }
+}
+
+#[test]
+fn each_write_is_flushed(rt: HostRuntime) {
+    let mut holding = Holding {
+        holds: false,
+        flushes: 0,
+    };
+    let mut sink = StdSink::new(&mut holding);
+    assert_eq!(rt; put(&mut sink, b"ab"), Ok(()));
+    assert!(rt; !holding.holds && holding.flushes == 1);
+
+    let mut sink = StdSink::new(&mut holding);
+    assert_eq!(rt; put(&mut sink, b"c"), Err(WriteFailed));
+    assert!(rt; holding.holds);
 }
 
 #[test]
