@@ -5,7 +5,7 @@ use Rattle.std.proofs.Math.Logic.{⊎_elim}
 use Rattle.std.proofs.Math.Seq.{take-add}
 use borrow.Rule.Slice.PartMut.{mid_of, put_mid}
 use Rattle.q4_disk.specs.Images.{written}
-use Rattle.q4_disk.specs.Pieces.{IsPiece, IsWholeRead}
+use Rattle.q4_disk.specs.Pieces.{FileView, file_after_write, IsPiece, IsWholeRead}
 use Rattle.q4_disk.proofs.Ranges.{written_at}
 
 -- what was read stands in front of what the slice held
@@ -104,3 +104,10 @@ written_piece bytes at new d n now le within is =
 pub written_piece_at : (bytes : List ℕ) (at : ℕ) (new : List ℕ) (d n : ℕ) (mid now : List ℕ) → at ≤ length bytes → d ≤ length new → mid ≡ written bytes at (take d new) → now ≡ written mid (at + d) (take n (mid_of d (length new - d) new)) → now ≡ written bytes at (take (d + n) new)
 written_piece_at bytes at new d n mid now le within so_far is =
     written_piece bytes at new d n now le within (is ∙ ap (λ (l : List ℕ). written l (at + d) (take n (mid_of d (length new - d) new))) so_far ∙ ap (λ (l : List ℕ). written (written bytes at (take d new)) (at + d) (take n l)) (part_is d new))
+
+-- and so for all that is told of a file
+pub file_piece_at : (file : FileView) (at : ℕ) (new : List ℕ) (d n : ℕ) (mid now : FileView) → at ≤ length file.bytes → d ≤ length new → mid ≡ file_after_write file at (take d new) → now ≡ file_after_write mid (at + d) (take n (mid_of d (length new - d) new)) → now ≡ file_after_write file at (take (d + n) new)
+file_piece_at file at new d n mid now le within so_far is =
+    let whole : FileView → List ℕ → FileView = λ f l. record { bytes = l; synced = f.synced } in
+    is ∙ ap (λ (f : FileView). file_after_write f (at + d) (take n (mid_of d (length new - d) new))) so_far
+    ∙ ap (λ (l : List ℕ). whole file l) (written_piece_at file.bytes at new d n (written file.bytes at (take d new)) _ le within refl refl)

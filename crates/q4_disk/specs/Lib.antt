@@ -5,6 +5,7 @@ pub mod Calls
 pub mod Replay
 pub mod Memory
 pub mod Pieces
+pub mod Pairs
 pub mod inner
 pub mod Failing
 pub mod Stopping

@@ -1,10 +1,6 @@
-ghost use Rattle.std.specs.Prelude.{false, []};
-
-use crate::pieces::{Pieces, read_full, write_full};
 use crate::tests::{Answer, Call, PLAIN, first_wrong};
 use crate::{Disk, DiskFailed, DiskMaker, FileDisk, FileMaker, MakeFault, Side};
 use std::alloc::{Allocator, Global};
-use std::cell::Cell;
 use std::fs::{self, File, Files, Metadata, OpenOptions};
 use std::io;
 use std::test::Fail;
@@ -136,78 +132,5 @@ fn syncs_the_folder_at_each_opening(rt: HostRuntime) -> Result<(), Fail> {
     let mut maker = FileMaker::new(NoFolder { files: &rt });
     let fault = maker.make(rt.alloc(), "jobs").err();
     assert_eq!(rt; fault, Some(MakeFault::Failed));
-    Ok(())
-}
-
-// Bytes of which each call reads or writes two at most, and which every other call interrupts.
-#[derive(Drop)]
-struct Slow {
-    bytes: Vec<u8>,
-    turns: Cell<u64>,
-}
-
-impl Slow {
-    fn interrupted(&self) -> bool {
-        let turn = self.turns.get();
-        self.turns.set(turn.wrapping_add(1));
-        turn % 2 == 0
-    }
-}
-
-impl Pieces for Slow {
-    ghost tells = { λ slow. false };
-
-    ghost bytes = { λ slow. [] };
-
-    fn read_piece(&self, at: u64, into: &mut [u8]) -> io::Result<usize> {
-        if self.interrupted() {
-            return Err(io::ErrorKind::Interrupted.into());
-        }
-        let start = self.bytes.len().min(at as usize);
-        let rest = &self.bytes[start..];
-        let count = rest.len().min(into.len()).min(2);
-        into[..count].copy_from_slice(&rest[..count]);
-        Ok(count)
-    }
-
-    fn write_piece(&mut self, at: u64, new: &[u8]) -> io::Result<usize> {
-        if self.interrupted() {
-            return Err(io::ErrorKind::Interrupted.into());
-        }
-        let start = self.bytes.len().min(at as usize);
-        let rest = &mut self.bytes[start..];
-        let count = rest.len().min(new.len()).min(2);
-        rest[..count].copy_from_slice(&new[..count]);
-        Ok(count)
-    }
-}
-
-#[test]
-fn follows_short_reads_and_writes_through(rt: HostRuntime) -> Result<(), Fail> {
-    let bytes = [1, 2, 3, 4, 5, 6, 7].to_vec(rt.alloc())?;
-    let mut slow = Slow {
-        bytes,
-        turns: Cell::new(0),
-    };
-    let mut into = [0; 5];
-    assert_eq!(rt; read_full(&slow, 1, &mut into)?, 5);
-    assert_eq!(rt; into, [2, 3, 4, 5, 6]);
-    assert_eq!(rt; read_full(&slow, 4, &mut into)?, 3);
-    assert_eq!(rt; into, [5, 6, 7, 5, 6]);
-    write_full(&mut slow, 1, &[21, 22, 23, 24, 25])?;
-    assert_eq!(rt;
-        slow.bytes.as_slice(),
-        [1, 21, 22, 23, 24, 25, 7].as_slice()
-    );
-    // it takes no byte behind its end
-    let full = write_full(&mut slow, 5, &[31, 32, 33]).err();
-    assert_eq!(rt;
-        full.map(|fault| fault.kind()),
-        Some(io::ErrorKind::WriteZero)
-    );
-    assert_eq!(rt;
-        slow.bytes.as_slice(),
-        [1, 21, 22, 23, 24, 31, 32].as_slice()
-    );
     Ok(())
 }

@@ -11,9 +11,14 @@ mod history;
 mod maker;
 mod memory;
 mod numbers;
+mod pair;
+#[cfg(test)]
+mod pair_tests;
 mod pick;
 mod pieces;
 mod stop;
+#[cfg(test)]
+mod stop_tests;
 mod tally;
 #[cfg(test)]
 mod tests;

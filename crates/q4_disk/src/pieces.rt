@@ -1,6 +1,5 @@
-ghost use Rattle.std.specs.Prelude.{◌≡◌, ◌≤◌, ◌^◌, ℕ, Bool, List, length, take, IsTrue, IfOk, OnOk, OnErr};
-ghost use Rattle.q4_disk.specs.Images.{written};
-ghost use Rattle.q4_disk.specs.Pieces.{IsPiece, IsWholeRead};
+ghost use Rattle.std.specs.Prelude.{◌≡◌, ◌≤◌, ◌^◌, ℕ, Bool, length, take, IsTrue, IfOk, OnOk, OnErr};
+ghost use Rattle.q4_disk.specs.Pieces.{FileView, file_after_write, file_after_cut, file_after_sync, IsPiece, IsWholeRead};
 
 use std::fs::File;
 use std::io;
@@ -9,38 +8,58 @@ use std::os::unix::fs::FileExt;
 // Where no byte of a file can stand.
 const NO_OFFSET: u64 = 1 << 63;
 
-/// Bytes that are read and written at offsets. A call may give or take fewer than it is asked for.
-pub(crate) trait Pieces {
-    /// Whether it tells its bytes.
-    ghost tells: { Self → Bool };
+/// A file that is read and written at offsets. A call may give or take fewer bytes than it is asked
+/// for.
+pub(crate) trait Pieces: Drop {
+    /// Whether files of this type tell what they hold.
+    ghost tells: { Bool };
 
-    /// Its bytes, where it tells them.
-    ghost bytes: { Self → List ℕ };
+    /// What a file holds, where it tells it.
+    ghost holds: { Self → FileView };
+
+    fn size(&self) -> io::Result<u64>
+        ensures { IsTrue tells → IfOk result (λ n. n ≡ length (holds self.now).bytes) };
 
     /// Gives no byte at the end alone. Where it fails the slice stays.
     fn read_piece(&self, at: u64, into: &mut [u8]) -> io::Result<usize>
         ensures room { IfOk result (λ n. n ≤ length into.old) }
-        ensures read { IsTrue (tells self.now) →
-            IfOk result (IsPiece (bytes self.now) at into.old into.new) }
-        ensures kept { IsTrue (tells self.now) → OnErr result (into.new ≡ into.old) };
+        ensures read { IsTrue tells →
+            IfOk result (IsPiece (holds self.now).bytes at into.old into.new) }
+        ensures kept { IsTrue tells → OnErr result (into.new ≡ into.old) };
 
     /// Takes a front of the bytes. Where it fails it takes none.
     fn write_piece(&mut self, at: u64, new: &[u8]) -> io::Result<usize>
-        requires { IsTrue (tells self.old) → at ≤ length (bytes self.old) }
+        requires { IsTrue tells → at ≤ length (holds self.old).bytes }
         ensures room { IfOk result (λ n. n ≤ length new.now) }
-        ensures tells { tells self.new ≡ tells self.old }
-        ensures wrote { IsTrue (tells self.old) → IfOk result
-            (λ n. bytes self.new ≡ written (bytes self.old) at (take n new.now)) }
-        ensures kept { IsTrue (tells self.old) → OnErr result (bytes self.new ≡ bytes self.old) };
+        ensures wrote { IsTrue tells → IfOk result
+            (λ n. holds self.new ≡ file_after_write (holds self.old) at (take n new.now)) }
+        ensures kept { IsTrue tells → OnErr result (holds self.new ≡ holds self.old) };
+
+    /// Cuts it to a length. Where it fails it cuts nothing.
+    fn cut_to(&mut self, to: u64) -> io::Result<()>
+        requires { IsTrue tells → to ≤ length (holds self.old).bytes }
+        ensures cut { IsTrue tells →
+            OnOk result (holds self.new ≡ file_after_cut (holds self.old) to) }
+        ensures kept { IsTrue tells → OnErr result (holds self.new ≡ holds self.old) };
+
+    /// Syncs the bytes and what is needed to find them, the length among it, and no times.
+    fn sync(&mut self) -> io::Result<()>
+        ensures synced { IsTrue tells →
+            OnOk result (holds self.new ≡ file_after_sync (holds self.old)) }
+        ensures kept { IsTrue tells → OnErr result (holds self.new ≡ holds self.old) };
 }
 
-/// A real file tells nothing of its bytes.
+/// A real file tells nothing of what it holds.
 impl Pieces for File {
     ghost use Rattle.std.specs.Prelude.{false, []};
 
-    ghost tells = { λ file. false };
+    ghost tells = { false };
 
-    ghost bytes = { λ file. [] };
+    ghost holds = { λ file. record { bytes = []; synced = 0 } };
+
+    fn size(&self) -> io::Result<u64> {
+        Ok(self.metadata()?.len())
+    }
 
     fn read_piece(&self, at: u64, into: &mut [u8]) -> io::Result<usize> {
         self.read_at(into, at)
@@ -49,14 +68,22 @@ impl Pieces for File {
     fn write_piece(&mut self, at: u64, new: &[u8]) -> io::Result<usize> {
         self.write_at(new, at)
     }
+
+    fn cut_to(&mut self, to: u64) -> io::Result<()> {
+        self.set_len(to)
+    }
+
+    fn sync(&mut self) -> io::Result<()> {
+        self.sync_data()
+    }
 }
 
 /// Reads until the slice is full or the bytes end, in as many reads as that takes.
 pub(crate) fn read_full<F: Pieces>(file: &F, at: u64, into: &mut [u8]) -> io::Result<usize>
-    requires { IsTrue (F.tells file.now) → length (F.bytes file.now) ≤ 2 ^ 63 }
+    requires { IsTrue F.tells → length (F.holds file.now).bytes ≤ 2 ^ 63 }
     ensures room { IfOk result (λ n. n ≤ length into.old) }
-    ensures read { IsTrue (F.tells file.now) →
-        IfOk result (IsWholeRead (F.bytes file.now) at into.old into.new) }
+    ensures read { IsTrue F.tells →
+        IfOk result (IsWholeRead (F.holds file.now).bytes at into.old into.new) }
 {
     let mut done = 0;
     for _ in 0..u64::MAX {
@@ -75,11 +102,11 @@ pub(crate) fn read_full<F: Pieces>(file: &F, at: u64, into: &mut [u8]) -> io::Re
 
 /// Writes all of it, in as many writes as that takes. Where it fails it has written a front.
 pub(crate) fn write_full<F: Pieces>(file: &mut F, at: u64, new: &[u8]) -> io::Result<()>
-    requires { IsTrue (F.tells file.old) → at ≤ length (F.bytes file.old) }
-    ensures wrote { IsTrue (F.tells file.old) →
-        OnOk result (F.bytes file.new ≡ written (F.bytes file.old) at new.now) }
-    ensures front { IsTrue (F.tells file.old) → OnErr result
-        ((n : ℕ) × (F.bytes file.new ≡ written (F.bytes file.old) at (take n new.now))) }
+    requires { IsTrue F.tells → at ≤ length (F.holds file.old).bytes }
+    ensures wrote { IsTrue F.tells →
+        OnOk result (F.holds file.new ≡ file_after_write (F.holds file.old) at new.now) }
+    ensures front { IsTrue F.tells → OnErr result
+        ((n : ℕ) × (F.holds file.new ≡ file_after_write (F.holds file.old) at (take n new.now))) }
 {
     if new.len() as u64 > NO_OFFSET || at > NO_OFFSET - new.len() as u64 {
         return Err(io::ErrorKind::FileTooLarge.into());

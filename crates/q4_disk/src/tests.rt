@@ -15,7 +15,7 @@ use std::test::Fail;
 
 // Writes at the front of a side, and syncs. At each moment within it a crash leaves an image of
 // before, or one with any bytes in the range; after success it leaves what is read.
-fn store<D: Disk>(disk: &mut D, side: Side, bytes: &[u8]) -> Result<(), DiskFailed>
+pub(crate) fn store<D: Disk>(disk: &mut D, side: Side, bytes: &[u8]) -> Result<(), DiskFailed>
     ensures honest { (D.told disk.new).honest ≡ (D.told disk.old).honest }
     ensures faults { CountsFault result (D.told disk.old).faults (D.told disk.new).faults }
     ensures moments { IsTrue (D.told disk.old).honest →
@@ -81,11 +81,11 @@ pub(crate) fn first_wrong<D: Disk>(disk: &mut D, rows: &[(Call, Answer)]) -> Opt
     None
 }
 
-fn counts(disk: &MemoryDisk) -> [u64; 4] {
+pub(crate) fn counts(disk: &MemoryDisk) -> [u64; 4] {
     [disk.calls(), disk.writes(), disk.syncs(), disk.faults()]
 }
 
-pub(crate) static PLAIN: [(Call, Answer); 12] = [
+pub(crate) static PLAIN: [(Call, Answer); 21] = [
     (Call::Put(Side::A, &[1, 2, 3]), Answer::Done),
     (Call::Sync(Side::A), Answer::Done),
     (Call::Put(Side::A, &[9]), Answer::Done),
@@ -94,9 +94,20 @@ pub(crate) static PLAIN: [(Call, Answer); 12] = [
     (Call::Read(Side::A, 2), Answer::Read(1, [3, 0])),
     (Call::Read(Side::A, u64::MAX), Answer::Read(0, [0, 0])),
     (Call::Size(Side::B), Answer::Size(0)),
+    // a put and a cut of B leave A
+    (Call::Put(Side::B, &[6, 7]), Answer::Done),
+    (Call::Size(Side::B), Answer::Size(2)),
+    (Call::Size(Side::A), Answer::Size(3)),
+    (Call::Clear(Side::B), Answer::Done),
+    (Call::Size(Side::B), Answer::Size(0)),
+    (Call::Size(Side::A), Answer::Size(3)),
+    (Call::Read(Side::A, 1), Answer::Read(2, [2, 3])),
     (Call::Put(Side::B, &[5]), Answer::Done),
+    (Call::Sync(Side::B), Answer::Done),
+    // and a cut of A leaves B
     (Call::Clear(Side::A), Answer::Done),
     (Call::Size(Side::A), Answer::Size(0)),
+    (Call::Size(Side::B), Answer::Size(1)),
     (Call::Read(Side::B, 0), Answer::Read(1, [5, 0])),
 ];
 
@@ -104,7 +115,7 @@ pub(crate) static PLAIN: [(Call, Answer); 12] = [
 fn answers_in_memory(rt: HostRuntime) -> Result<(), Fail> {
     let mut disk = MemoryMaker.make(rt.alloc(), "jobs")?;
     assert_eq!(rt; first_wrong(&mut disk, &PLAIN), None);
-    assert_eq!(rt; counts(&disk), [12, 3, 1, 0]);
+    assert_eq!(rt; counts(&disk), [21, 4, 2, 0]);
     assert_eq!(rt; disk.bytes(Side::B), [5].as_slice());
     Ok(())
 }
@@ -169,194 +180,10 @@ fn lists_numbers(rt: HostRuntime) -> Result<(), Fail> {
     Ok(())
 }
 
-static STOPPED: [(Call, Answer); 7] = [
-    (Call::Put(Side::A, &[1]), Answer::Done),
-    (Call::Sync(Side::A), Answer::Done),
-    (Call::Size(Side::A), Answer::Failed),
-    (Call::Read(Side::A, 0), Answer::Failed),
-    (Call::Put(Side::A, &[2]), Answer::Failed),
-    (Call::Clear(Side::A), Answer::Failed),
-    (Call::Sync(Side::A), Answer::Failed),
-];
-
-#[test]
-fn stops_at_a_call(rt: HostRuntime) -> Result<(), Fail> {
-    let mut disk = StopDisk::new(MemoryDisk::new(rt.alloc()), 3);
-    assert_eq!(rt; first_wrong(&mut disk, &STOPPED), None);
-    assert_eq!(rt; counts(disk.inner()), [7, 2, 2, 5]);
-    assert_eq!(rt;
-        wrong_pick(rt.alloc(), disk.inner(), Side::A, &[&[1], &[1], &[1], &[1]])?,
-        None
-    );
-    Ok(())
-}
-
-// A call at any offset.
-#[derive(Clone, Copy)]
-enum Change {
-    Write(Side, u64, &'static [u8]),
-    Cut(Side, u64),
-    Sync(Side),
-}
-
-// Makes a call, or tells that the side's size doesn't allow it.
-fn make_change(disk: &mut StopDisk, change: Change) -> Option<Result<(), DiskFailed>> {
-    match change {
-        Change::Write(side, at, bytes) => {
-            if at > disk.inner().bytes(side).len() as u64 {
-                return None;
-            }
-            Some(disk.write(side, at, bytes))
-        }
-        Change::Cut(side, to) => {
-            if to > disk.inner().bytes(side).len() as u64 {
-                return None;
-            }
-            Some(disk.cut(side, to))
-        }
-        Change::Sync(side) => Some(disk.sync(side)),
-    }
-}
-
 static PICKS: [Pick; 4] = [Pick::Kept, Pick::Lost, Pick::Half, Pick::Ones];
 
-#[derive(Clone, Copy)]
-struct Stop {
-    name: &'static str,
-    // the sides as they were synced
-    a: &'static [u8],
-    b: &'static [u8],
-    stop: u64,
-    changes: &'static [Change],
-    // the images of the sides, kept, lost, half and ones
-    images_a: [&'static [u8]; 4],
-    images_b: [&'static [u8]; 4],
-}
-
-static STOPS: [Stop; 8] = [
-    Stop {
-        name: "a write over the end",
-        a: &[1, 2],
-        b: &[],
-        stop: 1,
-        changes: &[Change::Write(Side::A, 1, &[7, 8])],
-        images_a: [&[1, 7, 8], &[1, 2], &[1, 7], &[1, 1, 1]],
-        images_b: [&[], &[], &[], &[]],
-    },
-    Stop {
-        name: "a cut, and a stop in the sync",
-        a: &[5, 6, 7, 8],
-        b: &[],
-        stop: 2,
-        changes: &[Change::Cut(Side::A, 1), Change::Sync(Side::A)],
-        images_a: [&[5], &[5, 6, 7, 8], &[5], &[5, 1, 1, 1]],
-        images_b: [&[], &[], &[], &[]],
-    },
-    Stop {
-        name: "a stop in the cut",
-        a: &[5, 6, 7, 8],
-        b: &[],
-        stop: 1,
-        changes: &[Change::Cut(Side::A, 2)],
-        images_a: [&[5, 6], &[5, 6, 7, 8], &[5, 6], &[5, 6, 1, 1]],
-        images_b: [&[], &[], &[], &[]],
-    },
-    Stop {
-        name: "two writes over each other",
-        a: &[9, 2, 3, 4, 5, 6],
-        b: &[],
-        stop: 3,
-        changes: &[
-            Change::Write(Side::A, 1, &[10, 11, 12]),
-            Change::Write(Side::A, 2, &[20, 21, 22, 23]),
-            Change::Sync(Side::A),
-        ],
-        images_a: [
-            &[9, 10, 20, 21, 22, 23],
-            &[9, 2, 3, 4, 5, 6],
-            &[9, 10, 20, 21, 5, 6],
-            &[9, 1, 1, 1, 1, 1],
-        ],
-        images_b: [&[], &[], &[], &[]],
-    },
-    Stop {
-        name: "past the end of B, with A unsynced",
-        a: &[1, 2],
-        b: &[3],
-        stop: 2,
-        changes: &[
-            Change::Write(Side::A, 0, &[7, 8]),
-            Change::Write(Side::B, 1, &[4, 5, 6]),
-        ],
-        images_a: [&[7, 8], &[1, 2], &[7, 2], &[1, 1]],
-        images_b: [&[3, 4, 5, 6], &[3], &[3, 4], &[3, 1, 1, 1]],
-    },
-    Stop {
-        name: "a side that was synced",
-        a: &[1, 2],
-        b: &[],
-        stop: 3,
-        changes: &[
-            Change::Write(Side::A, 1, &[7, 8]),
-            Change::Sync(Side::A),
-            Change::Write(Side::B, 0, &[9]),
-        ],
-        images_a: [&[1, 7, 8], &[1, 7, 8], &[1, 7, 8], &[1, 7, 8]],
-        images_b: [&[9], &[], &[], &[1]],
-    },
-    Stop {
-        name: "a hole where a write was lost",
-        a: &[1],
-        b: &[],
-        stop: 3,
-        changes: &[
-            Change::Write(Side::A, 1, &[5]),
-            Change::Write(Side::A, 2, &[6, 7]),
-            Change::Sync(Side::A),
-        ],
-        images_a: [&[1, 5, 6, 7], &[1], &[1, 0, 6], &[1, 1, 1, 1]],
-        images_b: [&[], &[], &[], &[]],
-    },
-    Stop {
-        name: "calls after the stop",
-        a: &[2, 3],
-        b: &[],
-        stop: 1,
-        changes: &[
-            Change::Write(Side::A, 0, &[7]),
-            Change::Write(Side::A, 1, &[8]),
-            Change::Cut(Side::A, 0),
-            Change::Sync(Side::A),
-            Change::Write(Side::B, 0, &[4]),
-        ],
-        images_a: [&[7, 3], &[2, 3], &[2, 3], &[1, 3]],
-        images_b: [&[], &[], &[], &[]],
-    },
-];
-
-// A disk whose sides hold these bytes, synced.
-fn seeded(alloc: Global, a: &[u8], b: &[u8]) -> Result<MemoryDisk, DiskFailed> {
-    let mut disk = MemoryDisk::new(alloc);
-    store(&mut disk, Side::A, a)?;
-    store(&mut disk, Side::B, b)?;
-    Ok(disk)
-}
-
-// The first call, counted from 1, that doesn't fail exactly from the stop on.
-fn wrong_change(disk: &mut StopDisk, row: &Stop) -> Option<u64> {
-    let mut number = 0u64;
-    for next in row.changes {
-        number = number.saturating_add(1);
-        match make_change(disk, *next) {
-            Some(outcome) if outcome.is_err() == (number >= row.stop) => {}
-            _ => return Some(number),
-        }
-    }
-    None
-}
-
 // The first pick whose image is another.
-fn wrong_pick(
+pub(crate) fn wrong_pick(
     alloc: Global,
     disk: &MemoryDisk,
     side: Side,
@@ -368,19 +195,6 @@ fn wrong_pick(
         }
     }
     Ok(None)
-}
-
-#[test]
-fn gives_the_picked_images(rt: HostRuntime) -> Result<(), Fail> {
-    for row in &STOPS {
-        let mut disk = StopDisk::new(seeded(rt.alloc(), row.a, row.b)?, row.stop);
-        assert_eq!(rt; wrong_change(&mut disk, row), None, "{}", row.name);
-        let a = wrong_pick(rt.alloc(), disk.inner(), Side::A, &row.images_a)?;
-        assert_eq!(rt; a, None, "{} A", row.name);
-        let b = wrong_pick(rt.alloc(), disk.inner(), Side::B, &row.images_b)?;
-        assert_eq!(rt; b, None, "{} B", row.name);
-    }
-    Ok(())
 }
 
 // Each kind may go to another thread.

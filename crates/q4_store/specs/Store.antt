@@ -40,7 +40,7 @@ pub record Stored (D : Type 0) : Type 0 where
   pub reserved : ℕ
   -- whether the gate of the other side is known to be there, closed and synced
   pub known : Bool
-  -- whether a commit failed
+  -- whether it has failed: a commit failed, or a finish was unsure
   pub failed : Bool
   -- how far a copy has come, where one is under way, and the bytes of the ends that wait for it
   pub copy : Option Progress
@@ -103,7 +103,7 @@ pub record StandsFor {D : Type 0} (told : D → Told) (store : Stored D) (conten
   pub rows : store.rows ≡ length (table_of content).rows
   -- Opening what a crash now leaves gives what is committed and a prefix of what is pending.
   pub images : IsTrue (told store.disk).honest → Within (told store.disk).images (IsPrefix content store.generation)
-  -- Where no commit failed it gives exactly what is committed.
+  -- Where the store has not failed it gives exactly what is committed.
   pub settled : IsTrue (told store.disk).honest → store.failed ≡ false
       → IsSettled (told store.disk) store.side content.committed store.generation store.end
   -- The other side's gate is there and closed where that is known, and else that side counts for nothing with any gate.

@@ -1,7 +1,7 @@
 //! What holds of two sides, of contents and of lengths whatever a call does. These functions do nothing: their contracts
 //! are the laws.
 
-ghost use Rattle.std.specs.Prelude.{◌≡◌, ◌≤◌, ◌<◌, ◌+◌, ◌++◌, ◌⊎◌, ℕ, List, [], ◌∷◌, Option, None, All, length, map};
+ghost use Rattle.std.specs.Prelude.{◌≡◌, ◌==◌, ◌≤◌, ◌<◌, ◌+◌, ◌++◌, ◌⊎◌, ℕ, List, [], ◌∷◌, Option, None, All, length, map};
 ghost use Rattle.q4_value.specs.declared.column.Column.{Column as Header};
 ghost use Rattle.q4_value.specs.declared.row.Value.{Value as Field};
 ghost use Rattle.q4_value.specs.Names.{AreColumns};
@@ -20,7 +20,7 @@ ghost use Rattle.q4_store.specs.declared.fault.OpenFault.TheVariants as fault;
 ghost use Rattle.q4_store.specs.Reading.{Reads};
 ghost use Rattle.q4_store.specs.Opening.{OpenFails, IsOutside};
 ghost use Rattle.q4_store.specs.Content.{Content, row_added, row_ended, table_of, table_with, with_change, all_committed, IsPrefix, IsPrefixOrNew};
-ghost use Rattle.q4_store.specs.Copied.{IsCopied, IsFinished, without_owners, cursor_after, taken, rest_records};
+ghost use Rattle.q4_store.specs.Copied.{IsCopied, IsFinished, without_owners, rows_below, cursor_after, taken, rest_records, copy_bytes, piece_bytes};
 ghost use Rattle.q4_store.specs.Looking.{header_bytes};
 ghost use Rattle.q4_store.specs.Lengths.{change_size, waiting_size, change_cost};
 ghost use Rattle.q4_store.specs.Store.{pending_length, batch_size};
@@ -78,6 +78,13 @@ pub fn copy_laws()
     // The next rows, at most so many.
     ensures piece { (table : TableState) (cursor most : ℕ) (copied : List Change) → IsValidTable table → All (λ r. r.owner ≡ None) table.rows → IsCopied table cursor copied
         → IsCopied table (cursor_after cursor (taken most cursor table)) (copied ++ map row_record (taken most cursor table)) }
+    // Below the cursor behind them are the rows that were below it, and these.
+    ensures below { (table : TableState) (cursor most : ℕ) → IsValidTable table
+        → rows_below (cursor_after cursor (taken most cursor table)) table.rows ≡ rows_below cursor table.rows ++ taken most cursor table }
+    // What a piece writes goes behind what the copy has, at its end: the ends that wait, and the rows. None waits before the
+    // first record is written.
+    ensures behind { (columns : List Header) (had waiting rows : List Change) (at : ℕ) → at ≡ base_at + length (copy_bytes columns had) → (had ≡ [] → waiting ≡ [])
+        → copy_bytes columns ((had ++ waiting) ++ rows) ≡ copy_bytes columns had ++ piece_bytes (at == base_at) columns (records_bytes waiting) rows }
     // With what is left it is a base of the table, which is read as the table, whatever generation its header has.
     ensures finished { (table : TableState) (cursor : ℕ) (copied : List Change) → IsValidTable table → All (λ r. r.owner ≡ None) table.rows → IsCopied table cursor copied
         → IsFinished table (copied ++ rest_records cursor table) }
@@ -85,6 +92,8 @@ pub fn copy_laws()
     ensures read { (table : TableState) (copied : List Change) (generation : ℕ) → IsFinished table copied → 1 ≤ generation → generation ≤ generation_limit
         → length (side_bytes generation (schema_bytes table.columns ++ records_bytes copied) (0 ∷ [])) ≤ side_limit → HasRoom table (base_at + length (schema_bytes table.columns ++ records_bytes copied) + 1)
         → Side table.columns (side_bytes generation (schema_bytes table.columns ++ records_bytes copied) (0 ∷ [])) table generation (base_at + length (schema_bytes table.columns ++ records_bytes copied) + 1) }
-    // It does not see an owner.
+    // Neither the records of a piece, nor the cursor behind it, nor what is left see an owner.
+    ensures owners_of_piece { (table : TableState) (cursor most : ℕ) → map row_record (taken most cursor (without_owners table)) ≡ map row_record (taken most cursor table) }
+    ensures owners_of_cursor { (table : TableState) (cursor most : ℕ) → cursor_after cursor (taken most cursor (without_owners table)) ≡ cursor_after cursor (taken most cursor table) }
     ensures owners { (table : TableState) (cursor : ℕ) → rest_records cursor (without_owners table) ≡ rest_records cursor table }
 {}

@@ -48,8 +48,8 @@ const END_SIZE: usize = 9;
 /// A table on a disk: it stands for the changes that were appended, and for what of them is committed.
 ///
 /// Appends take no memory and cannot fail: `reserve` takes the room and the memory before. A commit makes all that was
-/// appended durable at once. After a commit that failed no further call reaches the disk; what a crash leaves is read
-/// by opening the disk again.
+/// appended durable at once. A commit that fails and a finish that is unsure leave the store failed: no further call
+/// reaches the disk, and what a crash leaves is read by opening the disk again.
 #[derive(Drop)]
 pub struct Store<D: Disk> {
     disk: D,
@@ -297,8 +297,8 @@ impl<D: Disk> Store<D> {
 
 // Commit.
 impl<D: Disk> Store<D> {
-    /// Makes all that was appended durable, by at most two writes and two syncs. After a failure each later commit
-    /// fails at once.
+    /// Makes all that was appended durable, by at most two writes and two syncs. Where the store has failed, each
+    /// commit fails at once.
     pub fn commit(&mut self) -> Result<(), DiskFailed>
         // At each moment inside it opening gives what is committed and a prefix of what is pending.
         ensures any_moment { (content : Content) → StandsFor D.told self.old content → IsTrue (D.told self.old.disk).honest
@@ -316,7 +316,7 @@ impl<D: Disk> Store<D> {
         ensures whole { OnOk result (self.new.failed ≡ false) }
         ensures length { length_of self.new ≡ length_of self.old }
         ensures honest { (D.told self.new.disk).honest ≡ (D.told self.old.disk).honest }
-        // It fails only where the disk failed in it, or where a commit failed before.
+        // It fails only where the disk failed in it, or where the store has failed.
         ensures cause { OnErr result (self.old.failed ≡ false → bump (D.told self.old.disk).faults ≤ (D.told self.new.disk).faults) }
         ensures calm { OnOk result ((D.told self.new.disk).faults ≡ (D.told self.old.disk).faults) }
         ensures again { self.old.failed ≡ true → IsErr result × (self.new ≡ self.old) }
@@ -458,6 +458,7 @@ impl<D: Disk> Store<D> {
           copy = None;
           ends = [];
         })) }
+        ensures whole { OnOk result (self.new.failed ≡ false) }
         // It is no longer than before, and as long as the copy would be.
         ensures length { OnOk result (length_of self.new ≤ length_of self.old) }
         ensures exact { OnOk result ((content : Content) (extra : ℕ) → StandsFor D.told self.old content → table_of content ≡ without_owners table.now → IsLongerBy self.old (table_of content) extra
@@ -507,6 +508,7 @@ impl<D: Disk> Store<D> {
         ensures stands { OnOk result ((content : Content) → StandsFor D.told self.old content → IsRest self.old progress content last.now header.now → StandsFor D.told self.new (all_committed content)) }
         ensures finished { OnOk result (self.new ≡ record self.old { disk = self.new.disk; side = other self.old.side; end = progress.at + length last.now; generation = self.old.generation + 1; records = []; reserved = 0; known = false; copy = None; ends = [] }) }
         ensures generation { IfOk result (λ generation. generation ≡ self.old.generation + 1) }
+        ensures whole { OnOk result (self.new.failed ≡ false) }
         // No longer than before.
         ensures length { OnOk result (length_of self.new ≤ length_of self.old) }
         // A copy that is abandoned leaves what the store stands for.

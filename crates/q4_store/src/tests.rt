@@ -3,9 +3,12 @@ ghost use Rattle.q4_value.specs.Row.{IsValue, row_size as size_of};
 ghost use Rattle.q4_store.specs.Content.{row_added};
 ghost use Rattle.q4_store.specs.Lengths.{change_size};
 
+mod abandoned;
 mod acts;
 mod commits;
 mod copies;
+mod files;
+mod longest;
 mod openings;
 mod stops;
 mod twin;
@@ -13,7 +16,7 @@ mod twin;
 use crate::OpenFault::{Damaged, Large, Schema};
 use crate::{AppendFault, OpenFault, Store, room};
 use q4_def::read_defs;
-use q4_disk::{Disk, DiskMaker, FileMaker, MemoryDisk, Pick, Side, StopDisk};
+use q4_disk::{Disk, MemoryDisk, Pick, Side, StopDisk};
 use q4_table::{Mode, Origin, Table};
 use q4_value::{Bytes, Row, Value, Words, fits, row_size};
 use std::alloc::Global;
@@ -39,13 +42,14 @@ const PICKS: [Pick; 4] = [Pick::Kept, Pick::Lost, Pick::Half, Pick::Ones];
 // What opening gives: the generation, the number of rows, the next row number and the length; or its fault.
 type Given = Result<(u64, u32, u64, u64), OpenFault>;
 
-// Opens a table with a number `prio` and a text `body`.
-fn open<D: Disk>(
+// Opens the first table that the text defines: where it is empty, one with a number `prio` and a text `body`.
+fn open_as<D: Disk>(
     rt: &impl Abort,
     alloc: Global,
     disk: D,
+    text: &str,
 ) -> Result<(Store<D>, Table), (OpenFault, D)> {
-    let Ok(defs) = read_defs(alloc, &[]) else {
+    let Ok(defs) = read_defs(alloc, text.as_bytes()) else {
         panic!(rt; "no definitions")
     };
     let Some(def) = defs.table(0) else {
@@ -54,8 +58,20 @@ fn open<D: Disk>(
     Store::open(alloc, disk, def)
 }
 
+fn open<D: Disk>(
+    rt: &impl Abort,
+    alloc: Global,
+    disk: D,
+) -> Result<(Store<D>, Table), (OpenFault, D)> {
+    open_as(rt, alloc, disk, "")
+}
+
 fn opened<D: Disk>(rt: &impl Abort, alloc: Global, disk: D) -> (Store<D>, Table) {
-    match open(rt, alloc, disk) {
+    opened_as(rt, alloc, disk, "")
+}
+
+fn opened_as<D: Disk>(rt: &impl Abort, alloc: Global, disk: D, text: &str) -> (Store<D>, Table) {
+    match open_as(rt, alloc, disk, text) {
         Ok(opened) => opened,
         Err((_fault, _disk)) => panic!(rt; "it was not opened"),
     }
@@ -89,7 +105,15 @@ fn job(rt: &impl Abort, alloc: Global, prio: i64, body: &str) -> Row
     let body = Words::new(alloc, body).expect(rt, "memory");
     assert!(rt; row.push(Value::Int(prio)).is_ok());
     assert!(rt; row.push(Value::Word(body)).is_ok());
-    let Ok(defs) = read_defs(alloc, &[]) else {
+    fitting(rt, alloc, "", row)
+}
+
+// The row, which fits the first table that the text defines.
+fn fitting(rt: &impl Abort, alloc: Global, text: &str, row: Row) -> Row
+    ensures values { All IsValue result }
+    ensures size { size_of result < 2 ^ 31 }
+{
+    let Ok(defs) = read_defs(alloc, text.as_bytes()) else {
         panic!(rt; "no definitions")
     };
     let Some(def) = defs.table(0) else {
@@ -269,27 +293,4 @@ fn image(rt: &impl Abort, alloc: Global, disk: &StopDisk, side: Side, pick: Pick
         Ok(bytes) => bytes,
         Err(_) => panic!(rt; "no image"),
     }
-}
-
-#[test]
-fn a_store_in_files(rt: HostRuntime) {
-    let alloc = rt.alloc();
-    let mut maker = FileMaker::new(&rt);
-    let Ok(disk) = maker.make(alloc, "jobs") else {
-        panic!(rt; "no files")
-    };
-    let (mut store, _) = opened(&rt, alloc, disk);
-    append(
-        &rt,
-        &mut store,
-        1,
-        &job(&rt, alloc, 7, "resize a.png"),
-        None,
-    );
-    assert_eq!(rt; store.commit(), Ok(()));
-    drop(store);
-    let Ok(disk) = maker.make(alloc, "jobs") else {
-        panic!(rt; "no files")
-    };
-    assert_eq!(rt; given(&rt, alloc, disk), Ok((1, 1, 2, 83)));
 }

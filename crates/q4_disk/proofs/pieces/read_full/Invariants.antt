@@ -5,5 +5,5 @@ use Rattle.q4_disk.proofs.pieces.read_full.Given as goal
 abbrev pub invariant-loop : goal.invariant-loop
 invariant-loop g l = record {
   room : l.done ≤ length l.initial.into;
-  read : IsTrue (g.F.Pieces.tells l.file) → HasRead (g.F.Pieces.bytes l.file) l.at l.initial.into l.into l.done;
+  read : IsTrue g.F.Pieces.tells → HasRead (g.F.Pieces.holds l.file).bytes l.at l.initial.into l.into l.done;
 }
