@@ -24,7 +24,7 @@ use std::process::Abort;
 use std::test::*;
 
 // Side A of a table of a number and a text, of generation 1, with row 1, which is 7 and `resize a.png`.
-const WORKED: [u8; 83] = [
+static WORKED: [u8; 83] = [
     0x01, 0x51, 0x34, 0x4f, 0x31, // the open gate and the magic
     0x00, 0x00, 0x00, 0x00, 0x00, 0x00, 0x00, 0x01, // 5: the generation
     0x00, 0x00, 0x00, 0x00, 0x00, 0x00, 0x00, 0x17, // 13: the length of the base
@@ -168,18 +168,19 @@ fn room_at_its_limit(rt: HostRuntime) {
     assert_eq!(rt; room(536_860_000, 10_000, 849, 1), Err(536_870_000));
 }
 
+static WORDS: [(OpenFault, &'static str); 6] = [
+    (OpenFault::Disk, "disk fault"),
+    (Damaged(Side::A, 44), "damaged a 44"),
+    (Damaged(Side::B, 5), "damaged b 5"),
+    (Schema(2), "schema 2"),
+    (Large(7), "large 7"),
+    (OpenFault::Memory, "out of memory"),
+];
+
 #[test]
 fn words_of_faults(rt: HostRuntime) -> Result<(), Fail> {
-    let cases = [
-        (OpenFault::Disk, "disk fault"),
-        (Damaged(Side::A, 44), "damaged a 44"),
-        (Damaged(Side::B, 5), "damaged b 5"),
-        (Schema(2), "schema 2"),
-        (Large(7), "large 7"),
-        (OpenFault::Memory, "out of memory"),
-    ];
-    for (fault, words) in cases {
-        assert_eq!(rt; format!(in rt.alloc(); "{fault}")?.as_str(), words);
+    for (fault, words) in &WORDS {
+        assert_eq!(rt; format!(in rt.alloc(); "{fault}")?.as_str(), *words);
     }
     Ok(())
 }

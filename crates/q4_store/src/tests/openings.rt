@@ -47,43 +47,44 @@ fn changed(rt: &impl Abort, alloc: Global, len: usize, at: usize, byte: u8) -> V
     bytes
 }
 
+// The length that is kept of the worked side, the byte that is changed, what it becomes, and what opening gives.
+static DAMAGED: [(usize, usize, u8, Given); 26] = [
+    (83, 83, 0, Ok((1, 1, 2, 83))),
+    (60, 83, 0, Err(Damaged(Side::A, 44))),
+    (50, 44, 0, Ok((1, 0, 1, 45))),
+    (83, 1, 0x50, Err(Damaged(Side::A, 0))),
+    (83, 12, 0x00, Err(Damaged(Side::A, 0))),
+    (83, 20, 0xff, Err(Damaged(Side::A, 0))),
+    (83, 5, 0x40, Err(Large(7))),
+    (83, 23, 0x02, Err(Schema(1))),
+    (83, 31, 0x63, Err(Schema(2))),
+    (83, 23, 0x07, Err(Damaged(Side::A, 21))),
+    (83, 35, 0x02, Err(Damaged(Side::A, 35))),
+    (83, 35, 0x07, Err(Damaged(Side::A, 35))),
+    (83, 35, 0x09, Err(Damaged(Side::A, 35))),
+    (83, 43, 0x00, Err(Damaged(Side::A, 35))),
+    (83, 36, 0x40, Err(Large(3))),
+    (83, 43, 0x05, Err(Damaged(Side::A, 49))),
+    (83, 57, 0x02, Err(Damaged(Side::A, 49))),
+    (83, 49, 0x03, Err(Damaged(Side::A, 49))),
+    (83, 48, 0x22, Err(Damaged(Side::A, 44))),
+    (83, 48, 0x20, Err(Damaged(Side::A, 49))),
+    (83, 69, 0x0d, Err(Damaged(Side::A, 49))),
+    (83, 70, 0xff, Err(Damaged(Side::A, 49))),
+    (83, 67, 0x01, Err(Large(4))),
+    (83, 82, 0x01, Err(Damaged(Side::A, 82))),
+    (83, 0, 0x00, Ok((1, 0, 1, 45))),
+    (20, 83, 0, Ok((1, 0, 1, 45))),
+];
+
 #[test]
 fn damaged_sides(rt: HostRuntime) {
     let alloc = rt.alloc();
-    // the length that is kept, the byte that is changed and what it becomes
-    let cases: [(usize, usize, u8, Given); 26] = [
-        (83, 83, 0, Ok((1, 1, 2, 83))),
-        (60, 83, 0, Err(Damaged(Side::A, 44))),
-        (50, 44, 0, Ok((1, 0, 1, 45))),
-        (83, 1, 0x50, Err(Damaged(Side::A, 0))),
-        (83, 12, 0x00, Err(Damaged(Side::A, 0))),
-        (83, 20, 0xff, Err(Damaged(Side::A, 0))),
-        (83, 5, 0x40, Err(Large(7))),
-        (83, 23, 0x02, Err(Schema(1))),
-        (83, 31, 0x63, Err(Schema(2))),
-        (83, 23, 0x07, Err(Damaged(Side::A, 21))),
-        (83, 35, 0x02, Err(Damaged(Side::A, 35))),
-        (83, 35, 0x07, Err(Damaged(Side::A, 35))),
-        (83, 35, 0x09, Err(Damaged(Side::A, 35))),
-        (83, 43, 0x00, Err(Damaged(Side::A, 35))),
-        (83, 36, 0x40, Err(Large(3))),
-        (83, 43, 0x05, Err(Damaged(Side::A, 49))),
-        (83, 57, 0x02, Err(Damaged(Side::A, 49))),
-        (83, 49, 0x03, Err(Damaged(Side::A, 49))),
-        (83, 48, 0x22, Err(Damaged(Side::A, 44))),
-        (83, 48, 0x20, Err(Damaged(Side::A, 49))),
-        (83, 69, 0x0d, Err(Damaged(Side::A, 49))),
-        (83, 70, 0xff, Err(Damaged(Side::A, 49))),
-        (83, 67, 0x01, Err(Large(4))),
-        (83, 82, 0x01, Err(Damaged(Side::A, 82))),
-        (83, 0, 0x00, Ok((1, 0, 1, 45))),
-        (20, 83, 0, Ok((1, 0, 1, 45))),
-    ];
-    for (len, at, byte, want) in cases {
-        let a = changed(&rt, alloc, len, at, byte);
+    for (len, at, byte, want) in &DAMAGED {
+        let a = changed(&rt, alloc, *len, *at, *byte);
         assert_eq!(rt;
             given(&rt, alloc, seeded(&rt, alloc, &a, &[])),
-            want,
+            *want,
             "{len} {at} {byte}"
         );
     }
