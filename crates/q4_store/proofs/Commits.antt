@@ -18,10 +18,10 @@ use Rattle.q4_store.specs.Reading.{HasMagic}
 use Rattle.q4_store.specs.Parts.{IsShut, IsSpare, IsReady}
 use Rattle.q4_store.specs.Commit.{sealed, EndsBehind, IsOpenBehind, MayHaveBatch, grown}
 use Rattle.q4_store.specs.Copied.{HasCopied}
-use Rattle.q4_store.specs.Content.{Content, changed, table_of, all_committed, IsPrefix}
+use Rattle.q4_store.specs.Content.{Content, changed, table_of, all_committed, IsPrefix, IsAllOrNone}
 use Rattle.q4_store.specs.Store.{Stored, StandsFor, IsSettled, IsHeld, pending_length, length_of}
 use Rattle.std.specs.Int.{w32, to_be_bytes}
-use Rattle.q4_store.proofs.Lifting.{Holds, side_holds, reads_current, front, p, ends, may_read, may_hold, settled_then, columns_stay}
+use Rattle.q4_store.proofs.Lifting.{Holds, side_holds, reads_current, front, p, ends, may_read, may_be, may_hold, settled_then, columns_stay}
 
 -- a record has bytes
 pub some_bytes : (head : Head) (more : List ℕ) → head_bytes head ++ more ≢ []
@@ -176,6 +176,9 @@ module _ {D : Type 0} (told : D → Told) (store : Stored D) (content : Content)
 
   pub leaves : (new : Told) (bytes : List ℕ) → bytes ≡ sealed store.records → LeavesOnly old new (MayHaveBatch old.images store.side the_front bytes (grown old store.side store.end bytes)) → LeavesOnly old new (λ c. IsPrefix content store.generation c × Holds store.side store.generation c)
   leaves new bytes is written = let run = subst (λ (l : List ℕ). LeavesOnly old new (MayHaveBatch old.images store.side the_front l (grown old store.side store.end l))) (is ∙ ap sealed s.records) written in weaker old new _ (λ c. IsPrefix content store.generation c × Holds store.side store.generation c) run (λ c m. (may_read old store.side content store.generation store.end settled s.stand fits c m, may_hold old store.side content store.generation store.end settled s.stand fits c m))
+
+  pub leaves_all : (new : Told) (bytes : List ℕ) → bytes ≡ sealed store.records → LeavesOnly old new (MayHaveBatch old.images store.side the_front bytes (grown old store.side store.end bytes)) → LeavesOnly old new (IsAllOrNone content store.generation)
+  leaves_all new bytes is written = let run = subst (λ (l : List ℕ). LeavesOnly old new (MayHaveBatch old.images store.side the_front l (grown old store.side store.end l))) (is ∙ ap sealed s.records) written in weaker old new _ (IsAllOrNone content store.generation) run (λ c m. may_be old store.side content store.generation store.end settled s.stand fits c m)
 
   pub settled_new : (new : Told) (bytes : List ℕ) (more : ℕ) → bytes ≡ sealed store.records → more ≡ pending_length store.records → IsOpenBehind the_front bytes (grown old store.side store.end bytes) (on store.side new.bytes)
       → Within new.images (λ c. on store.side c ≡ on store.side new.bytes) → OtherStays store.side old new → IsSettled new store.side (table_of content) store.generation (store.end + more)

@@ -16,7 +16,7 @@ use Rattle.q4_disk.specs.Images.{on, other, Within}
 use Rattle.q4_disk.specs.Time.{OtherStays}
 use Rattle.q4_store.specs.Reading.{IsBehind, Reads}
 use Rattle.q4_store.specs.Commit.{sealed, EndsBehind, IsClosedBehind, IsOpenBehind, MayHaveBatch, grown}
-use Rattle.q4_store.specs.Content.{Content, table_of, IsPrefix}
+use Rattle.q4_store.specs.Content.{Content, table_of, IsPrefix, IsAllOrNone}
 use Rattle.q4_store.specs.Store.{IsSettled}
 use Rattle.q4_store.proofs.Fronts.{Parted, parted, side_of, more_front}
 
@@ -109,6 +109,17 @@ module _ (told : Told) (side : Side) (content : Content) (generation end : ℕ) 
         reads = subst (λ (rs : List Record). Reads columns c (replays (at_batches content.committed) rs).table generation) (sym (take_all (length content.pending) content.pending (omega arith)))
             (reads_current columns side c (table_of content) generation (end + (5 + length records)) (stands_open (on side c) is_open) behind);
       }
+
+  -- all that waits, or nothing of it
+  pub may_be : (c : Sides) → MayHaveBatch told.images side front (sealed records) (grown told side end (sealed records)) c → IsAllOrNone content generation c
+  may_be c m = be m.here
+    where
+      behind : IsBehind generation (on (other side) c)
+      behind = subst (IsBehind generation) (sym m.same) (s.behind m.from m.image)
+
+      be : IsClosedBehind front (grown told side end (sealed records)) (on side c) ⊎ IsOpenBehind front (sealed records) (grown told side end (sealed records)) (on side c) → IsAllOrNone content generation c
+      be (inl closed) = inl (reads_current columns side c content.committed generation end (stands_closed (on side c) closed) behind)
+      be (inr is_open) = inr (reads_current columns side c (table_of content) generation (end + (5 + length records)) (stands_open (on side c) is_open) behind)
 
   -- the side stays open, with its generation
   pub may_hold : (c : Sides) → MayHaveBatch told.images side front (sealed records) (grown told side end (sealed records)) c → Holds side generation c

@@ -45,6 +45,10 @@ pub record IsPrefix (content : Content) (generation : ℕ) (sides : Sides) : Typ
   pub within : count ≤ length content.pending
   pub reads : Reads content.committed.columns sides (table_with content count) generation
 
+-- Opening gives all that is committed, alone or with every change that waits.
+abbrev pub IsAllOrNone : Content → ℕ → Sides → Type 0
+IsAllOrNone content generation sides = Reads content.committed.columns sides content.committed generation ⊎ Reads content.committed.columns sides (table_of content) generation
+
 -- Or it gives the whole table, with a generation greater by one: a copy whose gate is open.
 abbrev pub IsPrefixOrNew : Content → ℕ → Sides → Type 0
 IsPrefixOrNew content generation sides = IsPrefix content generation sides ⊎ Reads content.committed.columns sides (table_of content) (generation + 1)

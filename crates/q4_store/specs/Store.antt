@@ -141,6 +141,13 @@ pub record IsUnsure (content : Content) (generation : ℕ) (side : Side) (len : 
   pub reads : IsPrefixOrNew content generation sides
   pub whole : IsSide content.committed.columns (opened (on side sides)) (table_of content) (generation + 1) len
 
+-- The store of this content is failed behind a finish that was unsure, with what a crash may leave then.
+pub record StandsUnsure {D : Type 0} (told : D → Told) (store : Stored D) (content : Content) : Type 0 where
+  pub failed : store.failed ≡ true
+  pub dropped : store.copy ≡ None
+  pub len : ℕ
+  pub images : IsTrue (told store.disk).honest → Within (told store.disk).images (IsUnsure content store.generation (other store.side) len)
+
 -- What always holds: the place of an honest disk's closing gate is there, and there is room for the end of each row.
 pub record IsKept {D : Type 0} (told : D → Told) (store : Stored D) : Type 0 where
   pub gate : 1 ≤ store.end

@@ -17,10 +17,10 @@ ghost use Rattle.q4_store.specs.Opening.{IsChosen, OpenFails, CountsOpen};
 ghost use Rattle.q4_store.specs.Commit.{sealed};
 ghost use Rattle.q4_store.specs.Device.{Makes, AllMade, BrokeOff, HasOpened, HasStopped, commit_calls, close_calls, prepare_calls, fill_calls, switch_calls};
 ghost use Rattle.q4_store.specs.CopyCalls.{CountsCopy, is_unsure, piece_calls, last_calls, PieceStops, FinishStops};
-ghost use Rattle.q4_store.specs.Content.{Content, row_added, row_ended, table_of, with_change, all_committed, IsPrefix, IsPrefixOrNew};
+ghost use Rattle.q4_store.specs.Content.{Content, row_added, row_ended, table_of, with_change, all_committed, IsPrefix, IsAllOrNone, IsPrefixOrNew};
 ghost use Rattle.q4_store.specs.Copied.{without_owners, cursor_after, taken, rows_from, compact_size};
 ghost use Rattle.q4_store.specs.Lengths.{change_size, waiting_size, change_cost};
-ghost use Rattle.q4_store.specs.Store.{StandsFor, IsRest, IsUnsure, IsLongerBy, finished_length, end_extra, ends_with, TakesRow, HasRow, IsOver, IsRefused, length_of, cost_of, pending_length, batch_size};
+ghost use Rattle.q4_store.specs.Store.{StandsFor, StandsUnsure, IsRest, IsUnsure, IsLongerBy, finished_length, end_extra, ends_with, TakesRow, HasRow, IsOver, IsRefused, length_of, cost_of, pending_length, batch_size};
 
 use crate::batch::Batch;
 use crate::committing::commit_batch;
@@ -242,6 +242,9 @@ impl<D: Disk> Store<D> {
         ensures few { OnOk result (live < self.old.rows → self.new ≡ record self.old { reserved = 0 }) }
         ensures same { self.new ≡ record self.old { reserved = self.new.reserved } }
         ensures stands { (content : Content) → StandsFor D.told self.old content → StandsFor D.told self.new content }
+        // A copy that is under way will be as long as it would be.
+        ensures copy { (content : Content) (extra : ℕ) → IsLongerBy self.old (table_of content) extra
+            → IsLongerBy self.new (table_of content) extra }
     {
         let cost = size + batch_cost(&self.batch);
         if let Err(taken) = room(self.end, pending_size(&self.batch), cost, u64::from(live)) {
@@ -303,6 +306,12 @@ impl<D: Disk> Store<D> {
         // At each moment inside it opening gives what is committed and a prefix of what is pending.
         ensures any_moment { (content : Content) → StandsFor D.told self.old content → IsTrue (D.told self.old.disk).honest
             → LeavesOnly (D.told self.old.disk) (D.told self.new.disk) (IsPrefix content self.old.generation) }
+        // It gives all of them or none, never some alone.
+        ensures all_or_none { (content : Content) → StandsFor D.told self.old content
+            → IsTrue (D.told self.old.disk).honest
+            → self.old.failed ≡ false → self.old.records ≢ []
+            → LeavesOnly (D.told self.old.disk) (D.told self.new.disk)
+            (IsAllOrNone content self.old.generation) }
         // After success all is committed, and after a failure the store stands for the same content.
         ensures done { OnOk result ((content : Content) → StandsFor D.told self.old content → StandsFor D.told self.new (all_committed content)) }
         ensures open { OnErr result ((content : Content) → StandsFor D.told self.old content → StandsFor D.told self.new content) }
@@ -315,6 +324,9 @@ impl<D: Disk> Store<D> {
         ensures kept { self.new ≡ record self.old { disk = self.new.disk; end = self.new.end; records = self.new.records; reserved = self.new.reserved; failed = self.new.failed } }
         ensures whole { OnOk result (self.new.failed ≡ false) }
         ensures length { length_of self.new ≡ length_of self.old }
+        // A copy that is under way will be as long as it would be.
+        ensures copy { (content : Content) (extra : ℕ) → IsLongerBy self.old (table_of content) extra
+            → IsLongerBy self.new (table_of content) extra }
         ensures honest { (D.told self.new.disk).honest ≡ (D.told self.old.disk).honest }
         // It fails only where the disk failed in it, or where the store has failed.
         ensures cause { OnErr result (self.old.failed ≡ false → bump (D.told self.old.disk).faults ≤ (D.told self.new.disk).faults) }
@@ -469,6 +481,10 @@ impl<D: Disk> Store<D> {
         // What a crash leaves where it is unsure.
         ensures unsure { IfErr result (λ fault. fault ≡ CopyFault.Unsure → (content : Content) → StandsFor D.told self.old content → table_of content ≡ without_owners table.now → IsTrue (D.told self.old.disk).honest
             → ForSome self.old.copy (λ progress. Within (D.told self.new.disk).images (IsUnsure content self.old.generation (other self.old.side) (finished_length self.old progress table.now)))) }
+        // The same, told by the store as it is then.
+        ensures unsure_stands { IfErr result (λ fault. fault ≡ CopyFault.Unsure
+            → (content : Content) → StandsFor D.told self.old content
+            → table_of content ≡ without_owners table.now → StandsUnsure D.told self.new content) }
         // It is abandoned or unsure exactly where the disk failed.
         ensures faults { IfErr result (λ fault. CountsCopy fault (D.told self.old.disk).faults (D.told self.new.disk).faults) }
         ensures calm { OnOk result ((D.told self.new.disk).faults ≡ (D.told self.old.disk).faults) }

@@ -4,9 +4,9 @@ use Rattle.q4_disk.proofs.Moments.{weaker}
 use Rattle.q4_store.proofs.Lifting.{Holds}
 use Rattle.q4_store.specs.Commit.{sealed}
 use Rattle.q4_store.specs.Device.{AllMade, BrokeOff, commit_calls}
-use Rattle.q4_store.specs.Content.{Content, IsPrefix}
-use Rattle.q4_store.specs.Store.{Stored, StandsFor}
-use Rattle.q4_store.proofs.Commits.{nothing_waits, not_so, ends_behind, end_is, leaves, settled_new, stands_open, stands_done, held_then}
+use Rattle.q4_store.specs.Content.{Content, table_of, IsPrefix, IsAllOrNone}
+use Rattle.q4_store.specs.Store.{Stored, StandsFor, IsLongerBy}
+use Rattle.q4_store.proofs.Commits.{nothing_waits, not_so, ends_behind, end_is, leaves, leaves_all, settled_new, stands_open, stands_done, held_then}
 use Rattle.q4_store.proofs.store.Store.commit.Given as given
 use Rattle.q4_store.proofs.store.Store.commit.Goals as goal
 use Rattle.q4_store.proofs.store.Store.commit.Goals.{After-commit_batch, In-Ok}
@@ -26,6 +26,32 @@ module _ (g : given.Over) (content : Content) where
       let kept = c.self.invariant.kept in
       let ends = ends_behind g.D.Disk.told _ content here some kept.room c.if-self.false h in
       leaves g.D.Disk.told _ content here some kept.room c.if-self.false h _ c.as_slice.result.now c.as_slice.ensures (c.commit_batch.ensures.any_moment _ h ends (end_is g.D.Disk.told _ content here some kept.room c.if-self.false h))
+
+  run_all : (c : goal.After-commit_batch g) → StandsFor g.D.Disk.told c.args.self.now content → IsTrue (g.D.Disk.told c.self.inside.disk).honest → LeavesOnly (g.D.Disk.told c.self.inside.disk) (g.D.Disk.told c.commit_batch.new.disk) (IsAllOrNone content c.self.inside.generation)
+  run_all c s h =
+      let here = subst (λ store. StandsFor g.D.Disk.told store content) (sym c.self.view_is) s in
+      let some = not_so c.is_empty.result c.is_empty.ensures c.if-is_empty.false in
+      let kept = c.self.invariant.kept in
+      let ends = ends_behind g.D.Disk.told _ content here some kept.room c.if-self.false h in
+      leaves_all g.D.Disk.told _ content here some kept.room c.if-self.false h _ c.as_slice.result.now c.as_slice.ensures (c.commit_batch.ensures.any_moment _ h ends (end_is g.D.Disk.told _ content here some kept.room c.if-self.false h))
+
+pub returns-in-Ok-clause-all_or_none : goal.returns-in-Ok-clause-all_or_none
+returns-in-Ok-clause-all_or_none g c content s h whole some =
+    subst (λ (store : Stored g.row.D.Denot). IsTrue (g.D.Disk.told store.disk).honest → LeavesOnly (g.D.Disk.told store.disk) (g.D.Disk.told c.commit_batch.new.disk) (IsAllOrNone content store.generation)) c.self.view_is
+    (run_all g content (goal.at.returns-in-Ok-clause-all_or_none g c).After-commit_batch s) h
+
+pub returns-in-Err-clause-all_or_none : goal.returns-in-Err-clause-all_or_none
+returns-in-Err-clause-all_or_none g c content s h whole some =
+    subst (λ (store : Stored g.row.D.Denot). IsTrue (g.D.Disk.told store.disk).honest → LeavesOnly (g.D.Disk.told store.disk) (g.D.Disk.told c.commit_batch.new.disk) (IsAllOrNone content store.generation)) c.self.view_is
+    (run_all g content (goal.at.returns-in-Err-clause-all_or_none g c).After-commit_batch s) h
+
+pub returns-in-Ok-clause-copy : goal.returns-in-Ok-clause-copy
+returns-in-Ok-clause-copy g c content extra longer =
+    subst (λ (store : Stored g.row.D.Denot). IsLongerBy store (table_of content) extra) (sym c.self.view_is) longer
+
+pub returns-in-Err-clause-copy : goal.returns-in-Err-clause-copy
+returns-in-Err-clause-copy g c content extra longer =
+    subst (λ (store : Stored g.row.D.Denot). IsLongerBy store (table_of content) extra) (sym c.self.view_is) longer
 
 pub returns-in-Ok-clause-any_moment : goal.returns-in-Ok-clause-any_moment
 returns-in-Ok-clause-any_moment g c content s h =

@@ -1,13 +1,14 @@
-use Rattle.std.proofs.Common.{◌≡◌, ◌==◌, ◌+◌, ◌-◌, ◌++◌, ◌≤◌, ◌*◌, List, ℕ, [], ◌∷◌, false, Some, None, Result, Ok, Err, IfErr, OnOk, length, refl, sym, ◌∙◌, ap, subst, arith}
+use Rattle.std.proofs.Common.{◌≡◌, ◌==◌, ◌+◌, ◌-◌, ◌++◌, ◌≤◌, ◌*◌, List, ℕ, [], ◌∷◌, IsTrue, true, false, Some, None, Result, Ok, Err, IfErr, OnOk, length, refl, sym, ◌∙◌, ap, subst, arith}
 use Rattle.q4_record.specs.Side.{base_at, side_limit}
+use Rattle.q4_disk.specs.Told.{Told}
 use Rattle.q4_disk.specs.Images.{other, Within}
 use Rattle.q4_store.specs.Looking.{header_bytes}
 use Rattle.q4_store.specs.Content.{Content, table_of}
 use Rattle.q4_store.specs.Copied.{without_owners, piece_bytes, rest_records}
 use Rattle.q4_store.proofs.Owners.{schema_here, rest_unowned}
-use Rattle.q4_store.specs.Store.{Stored, StandsFor, IsRest, IsUnsure, last_bytes, length_of, finished_length}
+use Rattle.q4_store.specs.Store.{Stored, StandsFor, StandsUnsure, IsRest, IsUnsure, last_bytes, length_of, finished_length}
 use Rattle.q4_store.specs.Device.{DeviceCall, AllMade, fill_calls, switch_calls}
-use Rattle.q4_store.specs.CopyCalls.{FinishStops}
+use Rattle.q4_store.specs.CopyCalls.{FinishStops, is_unsure}
 use Rattle.q4_store.proofs.Excess.{finished_unowned}
 use Rattle.q4_store.specs.declared.copying.Progress.{Progress}
 use Rattle.q4_store.proofs.Gathering.{rest_long}
@@ -89,6 +90,20 @@ if_err : {T E : Type 0} {P Q : E → Type 0} (result : Result T E) → ((e : E) 
 if_err (Ok x) f p = tt
 if_err (Err e) f p = f e p
 
+both_err : {T E : Type 0} {P Q R : E → Type 0} (result : Result T E) → ((e : E) → P e → Q e → R e) → IfErr result P → IfErr result Q → IfErr result R
+both_err (Ok x) f p q = tt
+both_err (Err e) f p q = f e p q
+
+-- a store that is failed, with what a crash may leave
+unsure_stands : {D : Type 0} (told : D → Told) (old new : Stored D) (content : Content) (len : ℕ) → new ≡ record old { disk = new.disk; failed = true; copy = None; ends = [] } → (told new.disk).honest ≡ (told old.disk).honest
+    → (IsTrue (told old.disk).honest → Within (told new.disk).images (IsUnsure content old.generation (other old.side) len)) → StandsUnsure told new content
+unsure_stands {D = D} told old new content len is same images = record {
+  failed = ap (λ (store : Stored D). store.failed) is;
+  dropped = ap (λ (store : Stored D). store.copy) is;
+  len = len;
+  images = λ honest. subst (λ (store : Stored D). Within (told new.disk).images (IsUnsure content store.generation (other store.side) len)) (sym is) (images (sym same ∙ honest));
+}
+
 on_ok : {T E P Q : Type 0} (result : Result T E) → (P → Q) → OnOk result P → OnOk result Q
 on_ok (Ok x) f p = f p
 on_ok (Err e) f p = tt
@@ -148,6 +163,13 @@ returns-clause-unsure g c =
     if_err c.finish.result (λ fault before is content s same h progress copying.
     subst (λ n. Within (told c.finish.new.self.disk).images (IsUnsure content c.args.self.now.generation (other c.args.self.now.side) n)) (end_here g a progress copying)
     (before is content s (rest_given g (goal.at.returns-clause-unsure g c).After-header_of-header content same) h)) c.finish.ensures.unsure
+
+pub returns-clause-unsure_stands : goal.returns-clause-unsure_stands
+returns-clause-unsure_stands g c =
+    both_err c.finish.result (λ fault left before is content s same.
+    unsure_stands g.D.Disk.told c.args.self.now c.finish.new.self content (c.in-Some.progress.at + length c.as_slice-last.result.now)
+    (left ∙ (λ i. record c.args.self.now { disk = c.finish.new.self.disk; failed = is_unsure (is i); copy = None; ends = [] })) c.finish.ensures.honest
+    (before is content s (rest_given g (goal.at.returns-clause-unsure_stands g c).After-header_of-header content same))) c.finish.ensures.dropped c.finish.ensures.unsure
 
 pub returns-clause-finished : goal.returns-clause-finished
 returns-clause-finished g c =
