@@ -70,7 +70,29 @@ fn refuses_names_that_cannot_be_opened(rt: HostRuntime) -> Result<(), Fail> {
     Ok(())
 }
 
-/// Files whose folder cannot be opened.
+// Side A is opened for writing alone, and side B takes no byte.
+static REFUSED: [(Call, Answer); 6] = [
+    (Call::Put(Side::A, &[1]), Answer::Done),
+    (Call::Size(Side::A), Answer::Size(1)),
+    (Call::Read(Side::A, 0), Answer::Failed),
+    (Call::Put(Side::B, &[1]), Answer::Failed),
+    (Call::Clear(Side::B), Answer::Failed),
+    (Call::Sync(Side::B), Answer::Failed),
+];
+
+#[test]
+fn tells_each_fault_of_a_file(rt: HostRuntime) -> Result<(), Fail> {
+    let mut how = OpenOptions::new();
+    how.write(true).create(true);
+    let blind = how.open(&rt, "blind")?;
+    let full = how.open(&rt, "/dev/full")?;
+    let mut disk = FileDisk::new(blind, full);
+    assert_eq!(rt; first_wrong(&mut disk, &REFUSED), None);
+    assert_eq!(rt; disk.faults(), 4);
+    Ok(())
+}
+
+/// Files in whose place a device is opened for the folder, which cannot be synced.
 #[derive(Drop)]
 struct NoFolder<R: Files<File = File>> {
     files: R,
@@ -82,9 +104,7 @@ impl<R: Files<File = File>> Files for NoFolder<R> {
     type Dir = R::Dir;
 
     fn open_file(&self, how: &OpenOptions, path: &str) -> io::Result<File> {
-        if path == "." {
-            return Err(io::ErrorKind::PermissionDenied.into());
-        }
+        let path = if path == "." { "/dev/null" } else { path };
         self.files.open_file(how, path)
     }
 
