@@ -1,3 +1,9 @@
+ghost use Rattle.std.specs.Prelude.{◌≡◌, ◌≤◌, ◌-◌, ◌++◌, [], length, min, take, drop, IsTrue, IfOk, OnOk};
+ghost use Rattle.q4_disk.specs.Images.{written};
+ghost use Rattle.q4_disk.specs.Calls.{bump};
+ghost use Rattle.q4_disk.specs.Pieces.{IsWholeRead};
+ghost use Rattle.q4_disk.specs.Pairs.{file_of, with_file};
+
 use crate::pair::PairDisk;
 use crate::pieces::{Pieces, read_full, write_full};
 use crate::{DiskFailed, Side};
@@ -32,11 +38,11 @@ impl Slow {
 }
 
 impl Pieces for Slow {
-    ghost use Rattle.std.specs.Prelude.{false, []};
+    ghost use Rattle.std.specs.Prelude.{true};
 
-    ghost tells = { false };
+    ghost tells = { true };
 
-    ghost holds = { λ slow. record { bytes = []; synced = 0 } };
+    ghost holds = { λ slow. record { bytes = slow.bytes.items; synced = slow.synced } };
 
     fn size(&self) -> io::Result<u64> {
         Ok(self.bytes.as_slice().len() as u64)
@@ -46,22 +52,14 @@ impl Pieces for Slow {
         if self.interrupted() {
             return Err(io::ErrorKind::Interrupted.into());
         }
-        let start = self.bytes.len().min(at as usize);
-        let rest = &self.bytes[start..];
-        let count = rest.len().min(into.len()).min(2);
-        into[..count].copy_from_slice(&rest[..count]);
-        Ok(count)
+        Ok(read_two(&self.bytes, at, into))
     }
 
     fn write_piece(&mut self, at: u64, new: &[u8]) -> io::Result<usize> {
         if self.interrupted() {
             return Err(io::ErrorKind::Interrupted.into());
         }
-        let start = self.bytes.len().min(at as usize);
-        let rest = &mut self.bytes[start..];
-        let count = rest.len().min(new.len()).min(2);
-        rest[..count].copy_from_slice(&new[..count]);
-        Ok(count)
+        Ok(write_two(&mut self.bytes, at as usize, new))
     }
 
     fn cut_to(&mut self, to: u64) -> io::Result<()> {
@@ -75,13 +73,48 @@ impl Pieces for Slow {
     }
 }
 
+// Reads two bytes at most.
+fn read_two(file: &Vec<u8>, at: u64, into: &mut [u8]) -> usize
+    ensures count { result ≡ min (min (length into.old) (length file.now.items - at)) 2 }
+    ensures into { into.new ≡ take result (drop at file.now.items) ++ drop result into.old }
+{
+    if at >= file.len() as u64 {
+        return 0;
+    }
+    let rest = &file[at as usize..];
+    let count = into.len().min(rest.len()).min(2);
+    into[..count].copy_from_slice(&rest[..count]);
+    count
+}
+
+// Writes two bytes at most.
+fn write_two(file: &mut Vec<u8>, at: usize, new: &[u8]) -> usize
+    requires { at ≤ length file.old.items }
+    ensures room { result ≤ length new.now }
+    ensures wrote { file.new.items ≡ written file.old.items at (take result new.now) }
+{
+    let count = new.len().min(file.len() - at).min(2);
+    file[at..at + count].copy_from_slice(&new[..count]);
+    count
+}
+
+// Reads of bytes of which there are not many.
+fn read_slow(slow: &Slow, at: u64, into: &mut [u8]) -> io::Result<usize>
+    ensures { IfOk result (IsWholeRead slow.now.bytes.items at into.old into.new) }
+{
+    if slow.bytes.as_slice().len() > 1_000 {
+        return Err(io::ErrorKind::FileTooLarge.into());
+    }
+    read_full(slow, at, into)
+}
+
 #[test]
 fn follows_short_reads_and_writes_through(rt: HostRuntime) -> Result<(), Fail> {
     let mut slow = Slow::new(rt.alloc(), &[1, 2, 3, 4, 5, 6, 7])?;
     let mut into = [0; 5];
-    assert_eq!(rt; read_full(&slow, 1, &mut into)?, 5);
+    assert_eq!(rt; read_slow(&slow, 1, &mut into)?, 5);
     assert_eq!(rt; into, [2, 3, 4, 5, 6]);
-    assert_eq!(rt; read_full(&slow, 4, &mut into)?, 3);
+    assert_eq!(rt; read_slow(&slow, 4, &mut into)?, 3);
     assert_eq!(rt; into, [5, 6, 7, 5, 6]);
     write_full(&mut slow, 0, &[20, 21, 22, 23, 24])?;
     assert_eq!(rt;
@@ -102,7 +135,10 @@ fn follows_short_reads_and_writes_through(rt: HostRuntime) -> Result<(), Fail> {
 }
 
 // Empties a side, and syncs it.
-fn empty<F: Pieces>(disk: &mut PairDisk<F>, side: Side) -> Result<(), DiskFailed> {
+fn empty<F: Pieces>(disk: &mut PairDisk<F>, side: Side) -> Result<(), DiskFailed>
+    ensures { IsTrue F.tells → let old = disk.old.files in OnOk result (disk.new.files ≡
+        with_file side (record { bytes = []; synced = bump (file_of side old).synced }) old) }
+{
     disk.cut(side, 0)?;
     disk.sync(side)
 }
