@@ -12,11 +12,13 @@ pub enum Kind {
     Words,
 }
 
-/// A column of a table: its name, and what values it takes.
+/// A column of a table: its name, what values it takes, and whether null is one of them.
 #[derive(Drop)]
 pub struct Column {
     pub name: Words,
     pub kind: Kind,
+    /// Whether the column takes null.
+    pub optional: bool,
 }
 
 impl Column {
@@ -27,6 +29,7 @@ impl Column {
         Ok(Column {
             name: self.name.copy(alloc)?,
             kind: self.kind,
+            optional: self.optional,
         })
     }
 }

@@ -1,19 +1,19 @@
 ghost use Rattle.std.specs.Prelude.{◌≡◌, ◌^◌, ◌<◌, ◌≤◌, length, OnOk, IfErr};
-ghost use Rattle.q4_value.specs.Row.{kind_of, IsValue, IsRowOf, value_size as size_of_value, row_size as size_of, Fits};
+ghost use Rattle.q4_value.specs.Row.{Takes, IsValue, IsRowOf, value_size as size_of_value, row_size as size_of, Fits};
 ghost use Rattle.q4_value.specs.Fit.{ValueMisfits, Misfits};
 
 use crate::column::{Column, Kind};
 use crate::row::{Row, TEXT_LIMIT, Value};
 
-// The greatest size of a row in bytes.
-const ROW_LIMIT: u64 = 1_048_576;
+/// The greatest size of a row in bytes.
+pub const ROW_LIMIT: u64 = 1_048_576;
 
 /// Why a row does not fit columns, which are counted from 1.
 #[derive(Clone, Copy, Debug, PartialEq, Eq)]
 pub enum RowFault {
     /// The row has another number of values than there are columns, which is told.
     Count(u32),
-    /// The value of this column is of another kind.
+    /// The value of this column is of another kind, or null though the column is not optional.
     Kind(u32),
     /// The text of this column has more than 65,535 bytes.
     Text(u32),
@@ -21,8 +21,8 @@ pub enum RowFault {
     Long,
 }
 
-/// Whether the row fits the columns: as many values as columns, each of its column's kind, no text
-/// over 65,535 bytes, and a size of at most 1,048,576. The first fault in this order is told, and
+/// Whether the row fits the columns: as many values as columns, each of its column's kind or null
+/// in an optional column, no text over 65,535 bytes, and a size of at most 1,048,576. The first fault in this order is told, and
 /// of the columns the first one.
 pub fn fits(columns: &[Column], row: &Row) -> Result<(), RowFault>
     requires { length columns.now ≤ 32 }
@@ -48,17 +48,24 @@ fn values_fit(columns: &[Column], values: &[Value]) -> Result<(), RowFault>
     ensures cause { IfErr result (Misfits columns.now values.now) }
 {
     for (place, column) in columns.iter().enumerate() {
-        value_fits(column.kind, &values[place], place as u32 + 1)?;
+        value_fits(column, &values[place], place as u32 + 1)?;
     }
     Ok(())
 }
 
 // Whether the value fits the column of this number.
-fn value_fits(kind: Kind, value: &Value, number: u32) -> Result<(), RowFault>
-    ensures fits { OnOk result ((kind_of value.now ≡ kind) × IsValue value.now) }
-    ensures cause { IfErr result (ValueMisfits kind value.now number) }
+fn value_fits(column: &Column, value: &Value, number: u32) -> Result<(), RowFault>
+    ensures fits { OnOk result (Takes column.now value.now × IsValue value.now) }
+    ensures cause { IfErr result (ValueMisfits column.now value.now number) }
 {
-    match (kind, value) {
+    match (column.kind, value) {
+        (_, Value::Null) => {
+            if column.optional {
+                Ok(())
+            } else {
+                Err(RowFault::Kind(number))
+            }
+        }
         // Bound, so that it counts as a number of 64 bits.
         (Kind::Int, &Value::Int(_number)) => Ok(()),
         (Kind::Words, Value::Word(words)) => {
@@ -71,8 +78,8 @@ fn value_fits(kind: Kind, value: &Value, number: u32) -> Result<(), RowFault>
     }
 }
 
-/// The size of the row in bytes: 8 for a number, 4 and its bytes for a text. That is also the
-/// length of its spelling in a file.
+/// The size of the row in bytes: 8 for a number, 4 and its bytes for a text, nothing for a null.
+/// Its spelling in a file is longer by one byte for each optional column.
 pub fn row_size(row: &Row) -> u64
     requires { size_of row.now < 2 ^ 64 }
     ensures { result ≡ size_of row.now }
@@ -90,5 +97,6 @@ fn value_size(value: &Value) -> u64
     match value {
         Value::Int(_) => 8,
         Value::Word(words) => 4 + words.as_str().len() as u64,
+        Value::Null => 0,
     }
 }

@@ -1,14 +1,14 @@
 //! What holds of spellings whatever a call does. These functions do nothing: their contracts are
 //! the laws.
 
-ghost use Rattle.std.specs.Prelude.{◌≡◌, ◌++◌, ℕ, List, length, All};
+ghost use Rattle.std.specs.Prelude.{◌≡◌, ◌+◌, ◌++◌, ℕ, List, length, All};
 ghost use Rattle.q4_value.specs.declared.column.Column.{Column as Header};
 ghost use Rattle.q4_value.specs.declared.fit.RowFault.{RowFault as Misfit};
 ghost use Rattle.q4_value.specs.declared.reading.RowBytes.{RowBytes as ReadFault};
 ghost use Rattle.q4_value.specs.declared.row.Value.{Value as Field};
 ghost use Rattle.q4_value.specs.Row.{IsRowOf, row_size as size_of, Fits};
 ghost use Rattle.q4_value.specs.Fit.{Misfits};
-ghost use Rattle.q4_value.specs.Spelling.{row_bytes};
+ghost use Rattle.q4_value.specs.Spelling.{row_bytes, optional_count};
 ghost use Rattle.q4_value.specs.Reading.{FirstUnreadable};
 ghost use Rattle.q4_value.specs.Escape.{escaped, IsFieldByte, BadAt};
 
@@ -22,14 +22,15 @@ pub fn fit_laws()
 
 /// Laws of rows as bytes.
 pub fn row_laws()
-    // A row's spelling is as long as its size.
-    ensures length { (row : List Field) → length (row_bytes row) ≡ size_of row }
+    // A row's spelling is longer than its size by one byte for each optional column.
+    ensures length { (columns : List Header) (row : List Field)
+        → length (row_bytes columns row) ≡ size_of row + optional_count columns }
     // No two rows of the same columns stand at the front of the same bytes.
     ensures once { (columns : List Header) (one other : List Field) (more rest : List ℕ) → IsRowOf columns one → IsRowOf columns other
-        → row_bytes one ++ more ≡ row_bytes other ++ rest → (one ≡ other) × (more ≡ rest) }
+        → row_bytes columns one ++ more ≡ row_bytes columns other ++ rest → (one ≡ other) × (more ≡ rest) }
     // Where a row stands at the front no value is unreadable.
     ensures apart { (columns : List Header) (row : List Field) (more : List ℕ) (why : ReadFault) → IsRowOf columns row
-        → FirstUnreadable columns (row_bytes row ++ more) why → ⊥ }
+        → FirstUnreadable columns (row_bytes columns row ++ more) why → ⊥ }
     // There is one first unreadable value at most, and one fault of it.
     ensures one_fault { (columns : List Header) (bytes : List ℕ) (one other : ReadFault) → FirstUnreadable columns bytes one
         → FirstUnreadable columns bytes other → one ≡ other }

@@ -17,11 +17,11 @@ pub use bytes::Bytes;
 pub use column::{Column, Kind};
 pub use columns::Columns;
 pub use escaping::{EscapeFault, escape, is_escaped, unescape};
-pub use fit::{RowFault, fits, row_size};
+pub use fit::{ROW_LIMIT, RowFault, fits, row_size};
 pub use laws::{escape_laws, fit_laws, row_laws};
 pub use number::{parse_signed, parse_unsigned};
 pub use reading::{RowBytes, read_row};
-pub use row::{Row, Value};
+pub use row::{Row, TEXT_LIMIT, Value};
 pub use words::Words;
 pub use writing::put_row;
 

@@ -1,10 +1,10 @@
-ghost use Rattle.std.specs.Prelude.{◌≡◌, ◌≤◌, ◌<◌, ◌⊎◌, ◌++◌, ℕ, List, length, drop, FitsSigned, IfOk, IfErr, IfSome, IfNone};
+ghost use Rattle.std.specs.Prelude.{◌≡◌, ◌+◌, ◌≤◌, ◌<◌, ◌⊎◌, ◌++◌, ℕ, List, length, drop, FitsSigned, IfOk, IfErr, IfSome, IfNone};
 ghost use Rattle.std.specs.Int.{w32, w64, to_be_bytes};
 ghost use Rattle.q4_value.specs.declared.row.Value.{Value as Field};
 ghost use Rattle.q4_value.specs.declared.row.Value.TheVariants.{Int, Word};
-ghost use Rattle.q4_value.specs.Row.{kind_of, IsValue, IsRowOf, row_size as size_of};
-ghost use Rattle.q4_value.specs.Spelling.{value_bytes, row_bytes};
-ghost use Rattle.q4_value.specs.Reading.{told_length, Reads, ValueFails, ReadFails};
+ghost use Rattle.q4_value.specs.Row.{IsOf, Takes, IsValue, IsRowOf, row_size as size_of};
+ghost use Rattle.q4_value.specs.Spelling.{value_bytes, cell_bytes, row_bytes, optional_count};
+ghost use Rattle.q4_value.specs.Reading.{told_length, Reads, ValueFails, CellFails, ReadFails};
 
 use crate::column::{Column, Kind};
 use crate::row::{Row, TEXT_LIMIT, Value};
@@ -15,13 +15,16 @@ use std::alloc::Global;
 /// counted from 1.
 #[derive(Clone, Copy, Debug, PartialEq, Eq)]
 pub enum RowBytes {
-    /// The bytes end within the value that begins at this offset.
+    /// The bytes end within the value that begins at this offset, with its flag byte where its
+    /// column is optional.
     Short(u64),
     /// The bytes of the text in this column are not UTF-8.
     NotText(u32),
     /// The text in this column has a length of more than 65,535 bytes. It goes before `Short` of
     /// the same value.
     Large(u32),
+    /// The flag byte in front of the value of this optional column is neither 0 nor 1.
+    Flag(u32),
     /// Memory was wanted and could not be had.
     Memory,
 }
@@ -33,11 +36,11 @@ pub fn read_row(alloc: Global, columns: &[Column], bytes: &[u8]) -> Result<(Row,
 
     // What is read is a row of the columns, and stands spelled at the front.
     ensures read { IfOk result (λ found. Reads columns.now bytes.now found.0 found.1) }
-    ensures size { IfOk result (λ found. found.1 ≡ size_of found.0) }
+    ensures size { IfOk result (λ found. found.1 ≡ size_of found.0 + optional_count columns.now) }
 
     // What is spelled so is read, whatever follows it, unless memory runs out.
-    ensures spelled { (row : List Field) (rest : List ℕ) → IsRowOf columns.now row → bytes.now ≡ row_bytes row ++ rest
-        → (result ≡ Ok (row, length (row_bytes row))) ⊎ (result ≡ Err RowBytes.Memory) }
+    ensures spelled { (row : List Field) (rest : List ℕ) → IsRowOf columns.now row → bytes.now ≡ row_bytes columns.now row ++ rest
+        → (result ≡ Ok (row, length (row_bytes columns.now row))) ⊎ (result ≡ Err RowBytes.Memory) }
 
     // Else the first value that cannot be read is told.
     ensures fault { IfErr result (ReadFails columns.now bytes.now) }
@@ -55,7 +58,7 @@ fn read_values(alloc: Global, columns: &[Column], bytes: &[u8]) -> Result<(Row, 
     let mut rest = bytes;
     for (place, column) in columns.iter().enumerate() {
         let offset = (bytes.len() - rest.len()) as u64;
-        let (value, after) = read_value(alloc, column.kind, offset, place as u32 + 1, rest)?;
+        let (value, after) = read_cell(alloc, column, offset, place as u32 + 1, rest)?;
         match row.push(value) {
             Ok(()) => rest = after,
             Err(_) => return Err(RowBytes::Memory),
@@ -64,7 +67,30 @@ fn read_values(alloc: Global, columns: &[Column], bytes: &[u8]) -> Result<(Row, 
     Ok((row, bytes.len() - rest.len()))
 }
 
-// The value at the front, and the bytes behind it.
+// The value of this column at the front, behind its flag where the column is optional, and the bytes behind it.
+fn read_cell<'a>(
+    alloc: Global,
+    column: &Column,
+    offset: u64,
+    number: u32,
+    bytes: &'a [u8],
+) -> Result<(Value, &'a [u8]), RowBytes>
+    ensures value { IfOk result (λ found. Takes column.now found.0 × IsValue found.0) }
+    ensures read { IfOk result (λ found. bytes.now ≡ cell_bytes column.now found.0 ++ found.1.now) }
+    ensures fault { IfErr result (CellFails column.now bytes.now offset number) }
+{
+    if !column.optional {
+        return read_value(alloc, column.kind, offset, number, bytes);
+    }
+    match bytes {
+        [] => Err(RowBytes::Short(offset)),
+        [0, rest @ ..] => Ok((Value::Null, rest)),
+        [1, rest @ ..] => read_value(alloc, column.kind, offset, number, rest),
+        _ => Err(RowBytes::Flag(number)),
+    }
+}
+
+// The value of this kind at the front, and the bytes behind it.
 fn read_value(
     alloc: Global,
     kind: Kind,
@@ -72,7 +98,7 @@ fn read_value(
     column: u32,
     bytes: &[u8],
 ) -> Result<(Value, &[u8]), RowBytes>
-    ensures value { IfOk result (λ found. (kind_of found.0 ≡ kind) × IsValue found.0) }
+    ensures value { IfOk result (λ found. IsOf kind found.0 × IsValue found.0) }
     ensures read { IfOk result (λ found. bytes.now ≡ value_bytes found.0 ++ found.1.now) }
     ensures fault { IfErr result (ValueFails kind bytes.now offset column) }
 {

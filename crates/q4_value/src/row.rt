@@ -5,8 +5,8 @@ use crate::{NoMemory, Words};
 use std::alloc::Global;
 use std::marker::Model;
 
-// The most bytes of a text in a row.
-pub(crate) const TEXT_LIMIT: usize = 65_535;
+/// The most bytes of a text in a row.
+pub const TEXT_LIMIT: usize = 65_535;
 
 /// One value of a row.
 #[derive(Drop)]
@@ -15,6 +15,8 @@ pub enum Value {
     Int(i64),
     /// A text.
     Word(Words),
+    /// No number and no text, in an optional column.
+    Null,
 }
 
 impl Value {
@@ -25,6 +27,7 @@ impl Value {
         match self {
             Value::Int(number) => Ok(Value::Int(*number)),
             Value::Word(words) => Ok(Value::Word(words.copy(alloc)?)),
+            Value::Null => Ok(Value::Null),
         }
     }
 }

@@ -6,15 +6,25 @@ use std::alloc::Global;
 use std::process::Abort;
 use std::test::*;
 
-// A value as the tables write it: a number, a text, or so many bytes of the letter x.
+// A value as the tables write it: a number, a text, so many bytes of the letter x, or null.
 #[derive(Clone, Copy)]
 enum Field {
     Number(i64),
     Text(&'static str),
     Long(usize),
+    Nothing,
 }
 
-use Field::{Long, Number, Text};
+use Field::{Long, Nothing, Number, Text};
+
+// The kind of a column, and whether it is optional.
+const INT: (Kind, bool) = (Kind::Int, false);
+
+const TEXT: (Kind, bool) = (Kind::Words, false);
+
+const INT_OR_NULL: (Kind, bool) = (Kind::Int, true);
+
+const TEXT_OR_NULL: (Kind, bool) = (Kind::Words, true);
 
 fn long_text(rt: &impl Abort, alloc: Global, len: usize) -> Words {
     let mut text = String::new(alloc);
@@ -31,19 +41,25 @@ fn row_of(rt: &impl Abort, alloc: Global, fields: &[Field]) -> Row {
             Number(number) => Value::Int(number),
             Text(text) => Value::Word(Words::new(alloc, text).expect(rt, "memory")),
             Long(len) => Value::Word(long_text(rt, alloc, len)),
+            Nothing => Value::Null,
         };
         assert!(rt; row.push(value).is_ok());
     }
     row
 }
 
-fn columns_of(rt: &impl Abort, alloc: Global, kinds: &[Kind]) -> Columns
+fn columns_of(rt: &impl Abort, alloc: Global, kinds: &[(Kind, bool)]) -> Columns
     ensures { length result ≤ 32 }
 {
     let mut columns = Columns::new(alloc);
-    for kind in kinds {
+    for &(kind, optional) in kinds {
         let name = Words::new(alloc, "c").expect(rt, "memory");
-        assert!(rt; columns.push(Column { name, kind: *kind }).is_ok());
+        let column = Column {
+            name,
+            kind,
+            optional,
+        };
+        assert!(rt; columns.push(column).is_ok());
     }
     assert!(rt; columns.len() <= 32);
     columns
@@ -66,6 +82,7 @@ fn same_value(value: &Value, field: &Field) -> bool {
         (Value::Int(number), Number(wanted)) => *number == *wanted,
         (Value::Word(words), Text(wanted)) => words.as_str() == *wanted,
         (Value::Word(words), Long(len)) => words.as_str().len() == *len,
+        (Value::Null, Nothing) => true,
         _ => false,
     }
 }
@@ -137,7 +154,7 @@ const JOB: [u8; 24] = [
 
 #[test]
 fn a_row_as_bytes(rt: HostRuntime) {
-    let columns = columns_of(&rt, rt.alloc(), &[Kind::Int, Kind::Words]);
+    let columns = columns_of(&rt, rt.alloc(), &[INT, TEXT]);
     let fields = [Number(7), Text("resize a.png")];
     let row = fitting_row(&rt, rt.alloc(), &columns, &fields);
     let mut wanted = Bytes::new(rt.alloc());
@@ -145,7 +162,7 @@ fn a_row_as_bytes(rt: HostRuntime) {
     assert_eq!(rt; wanted.push(&JOB), Ok(()));
     let mut out = Bytes::new(rt.alloc());
     assert_eq!(rt; out.push(b"before"), Ok(()));
-    assert_eq!(rt; put_row(&row, &mut out), Ok(()));
+    assert_eq!(rt; put_row(columns.as_slice(), &row, &mut out), Ok(()));
     assert_eq!(rt; out.as_slice(), wanted.as_slice());
     assert_eq!(rt; row_size(&row), 24);
 
@@ -165,11 +182,11 @@ fn extreme_numbers_as_bytes(rt: HostRuntime) {
         (-1, [255; 8]),
         (258, [0, 0, 0, 0, 0, 0, 1, 2]),
     ];
-    let columns = columns_of(&rt, rt.alloc(), &[Kind::Int]);
+    let columns = columns_of(&rt, rt.alloc(), &[INT]);
     for (number, bytes) in rows {
         let row = fitting_row(&rt, rt.alloc(), &columns, &[Number(number)]);
         let mut out = Bytes::new(rt.alloc());
-        assert_eq!(rt; put_row(&row, &mut out), Ok(()));
+        assert_eq!(rt; put_row(columns.as_slice(), &row, &mut out), Ok(()));
         assert_eq!(rt; out.as_slice(), bytes.as_slice());
         let (read, len) = read_row(rt.alloc(), columns.as_slice(), &bytes).expect(&rt, "a row");
         assert_eq!(rt; len, 8);
@@ -177,10 +194,79 @@ fn extreme_numbers_as_bytes(rt: HostRuntime) {
     }
 }
 
+// Optional columns have a flag in front: 0 alone for a null, 1 before a value. The column between them has none.
+#[test]
+fn nulls_as_bytes(rt: HostRuntime) {
+    let columns = columns_of(&rt, rt.alloc(), &[INT_OR_NULL, INT, TEXT_OR_NULL]);
+    let rows: [([Field; 3], u64, &[u8]); 3] = [
+        (
+            [Nothing, Number(7), Nothing],
+            8,
+            &[0, 0, 0, 0, 0, 0, 0, 0, 7, 0],
+        ),
+        (
+            [Number(0), Number(7), Text("")],
+            20,
+            &[
+                1, 0, 0, 0, 0, 0, 0, 0, 0, 0, 0, 0, 0, 0, 0, 0, 7, 1, 0, 0, 0, 0,
+            ],
+        ),
+        (
+            [Nothing, Number(7), Text("a")],
+            13,
+            &[0, 0, 0, 0, 0, 0, 0, 0, 7, 1, 0, 0, 0, 1, 97],
+        ),
+    ];
+    for (fields, size, bytes) in rows {
+        let row = fitting_row(&rt, rt.alloc(), &columns, &fields);
+        assert_eq!(rt; row_size(&row), size);
+        let mut out = Bytes::new(rt.alloc());
+        assert_eq!(rt; put_row(columns.as_slice(), &row, &mut out), Ok(()));
+        assert_eq!(rt; out.as_slice(), bytes);
+        let (read, len) = read_row(rt.alloc(), columns.as_slice(), bytes).expect(&rt, "a row");
+        assert_eq!(rt; len, bytes.len());
+        assert!(rt; same_row(&read, &fields));
+    }
+}
+
+#[test]
+fn flags_that_are_none(rt: HostRuntime) {
+    let columns = columns_of(&rt, rt.alloc(), &[INT_OR_NULL, TEXT_OR_NULL]);
+    let cases: [(&[u8], RowBytes); 8] = [
+        (&[], RowBytes::Short(0)),
+        (&[0], RowBytes::Short(1)),
+        (&[1], RowBytes::Short(0)),
+        (&[1, 0, 0, 0, 0, 0, 0, 0], RowBytes::Short(0)),
+        (&[2, 0, 0, 0, 0, 0, 0, 0, 0, 0], RowBytes::Flag(1)),
+        (&[0, 255], RowBytes::Flag(2)),
+        (&[0, 1, 0, 1, 0, 0], RowBytes::Large(2)),
+        (&[0, 1, 0, 0, 0, 1, 255], RowBytes::NotText(2)),
+    ];
+    for (bytes, wanted) in cases {
+        let fault = read_row(rt.alloc(), columns.as_slice(), bytes).err();
+        assert_eq!(rt; fault, Some(wanted), "of {bytes:?}");
+    }
+}
+
+#[test]
+fn nulls_that_fit(rt: HostRuntime) {
+    let columns = columns_of(&rt, rt.alloc(), &[INT_OR_NULL, TEXT]);
+    let cases: [(&[Field], Result<(), RowFault>); 4] = [
+        (&[Nothing, Text("a")], Ok(())),
+        (&[Number(1), Nothing], Err(RowFault::Kind(2))),
+        (&[Text("a"), Nothing], Err(RowFault::Kind(1))),
+        (&[Nothing], Err(RowFault::Count(2))),
+    ];
+    for (fields, wanted) in cases {
+        let row = row_of(&rt, rt.alloc(), fields);
+        assert_eq!(rt; fits(columns.as_slice(), &row), wanted);
+    }
+}
+
 #[test]
 fn bytes_that_are_no_row(rt: HostRuntime) {
-    let one = columns_of(&rt, rt.alloc(), &[Kind::Int, Kind::Words]);
-    let two = columns_of(&rt, rt.alloc(), &[Kind::Words, Kind::Words]);
+    let one = columns_of(&rt, rt.alloc(), &[INT, TEXT]);
+    let two = columns_of(&rt, rt.alloc(), &[TEXT, TEXT]);
     let cases: [(&Columns, &[u8], RowBytes); 13] = [
         (&one, &[], RowBytes::Short(0)),
         (&one, &[0, 0, 0, 0, 0, 0, 0], RowBytes::Short(0)),
@@ -231,7 +317,7 @@ fn bytes_that_are_no_row(rt: HostRuntime) {
 // last character, and bytes that no character has.
 #[test]
 fn ill_formed_texts(rt: HostRuntime) {
-    let columns = columns_of(&rt, rt.alloc(), &[Kind::Words]);
+    let columns = columns_of(&rt, rt.alloc(), &[TEXT]);
     let texts: [&[u8]; 12] = [
         &[0x80],
         &[0xc3],
@@ -257,7 +343,7 @@ fn ill_formed_texts(rt: HostRuntime) {
 
 #[test]
 fn rows_that_fit(rt: HostRuntime) {
-    let columns = columns_of(&rt, rt.alloc(), &[Kind::Int, Kind::Words]);
+    let columns = columns_of(&rt, rt.alloc(), &[INT, TEXT]);
     let cases: [(&[Field], Result<(), RowFault>); 10] = [
         (&[Number(1), Text("a")], Ok(())),
         (&[Number(1), Long(65_535)], Ok(())),
@@ -279,7 +365,7 @@ fn rows_that_fit(rt: HostRuntime) {
 // Sixteen texts of 65,532 bytes have the size 1,048,576 together with their lengths.
 #[test]
 fn the_largest_row(rt: HostRuntime) {
-    let columns = columns_of(&rt, rt.alloc(), &[Kind::Words; 16]);
+    let columns = columns_of(&rt, rt.alloc(), &[TEXT; 16]);
     let mut fields = [Long(65_532); 16];
     let row = fitting_row(&rt, rt.alloc(), &columns, &fields);
     assert_eq!(rt; row_size(&row), 1_048_576);
@@ -349,7 +435,7 @@ fn copies(rt: HostRuntime) {
     assert!(rt; same_row(&row, &fields));
     assert!(rt; row.at(3).is_none());
 
-    let columns = columns_of(&rt, rt.alloc(), &[Kind::Int, Kind::Words]);
+    let columns = columns_of(&rt, rt.alloc(), &[INT, TEXT]);
     let copied = columns.copy(rt.alloc()).expect(&rt, "memory");
     assert_eq!(rt; copied.len(), 2);
     for (place, kind) in [Kind::Int, Kind::Words].iter().enumerate() {

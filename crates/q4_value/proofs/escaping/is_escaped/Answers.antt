@@ -1,5 +1,4 @@
-use Rattle.std.proofs.Common.{◌≡◌, ℕ, List, length, subst}
-use Rattle.memchr.specs.Find.{Nowhere, NoneBefore, Passes, is_byte3}
+use Rattle.std.proofs.Common.{◌≡◌, ℕ, List, subst}
 use Rattle.q4_value.specs.Escape.{escaped}
 use Rattle.q4_value.proofs.Runs.{field_nowhere}
 use Rattle.q4_value.proofs.Unescaped.{raw_is_none}

@@ -12,7 +12,7 @@ pub returns-clause-once : goal.returns-clause-once
 returns-clause-once c = rows_once
 
 pub returns-clause-apart : goal.returns-clause-apart
-returns-clause-apart c = λ columns row more why row_of bad. readable columns (row_bytes row ++ more) row more why bad row_of refl
+returns-clause-apart c = λ columns row more why row_of bad. readable columns (row_bytes columns row ++ more) row more why bad row_of refl
 
 pub returns-clause-one_fault : goal.returns-clause-one_fault
 returns-clause-one_fault c = one_unreadable

@@ -13,5 +13,5 @@ pub loop-place-preserved : goal.loop-place-preserved
 loop-place-preserved c =
     rw (take_next c.args.columns.now c.loop-place.place c.index-columns-place.result c.loop-place-test.true c.index-columns-place.is, c.in-Ok.ensures.pushed) (
       row_push (take c.loop-place.place c.args.columns.now) c.loop-place.row c.index-columns-place.result c.in_ok-value.value c.loop-place.invariant.0 c.in_ok-value.ensures.value.0 c.in_ok-value.ensures.value.1,
-      read_more c.args.bytes.now c.loop-place.rest.now c.in_ok-value.after.now c.loop-place.row c.in_ok-value.value c.loop-place.invariant.1 c.in_ok-value.ensures.read,
+      read_more (take c.loop-place.place c.args.columns.now) c.args.bytes.now c.loop-place.rest.now c.in_ok-value.after.now c.loop-place.row c.index-columns-place.result c.in_ok-value.value c.loop-place.invariant.0 c.loop-place.invariant.1 c.in_ok-value.ensures.read,
     )
