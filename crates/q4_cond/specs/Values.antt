@@ -3,14 +3,14 @@ use Rattle.std.specs.Prelude.{ℕ, ◌^◌, List, Bool, true, false, not, ◌||�
 use Rattle.std.specs.Ordering.{int_eq}
 use Rattle.std.specs.Str.{bytes_eq}
 use Rattle.q4_value.specs.declared.row.Value.{Value}
-use Rattle.q4_value.specs.declared.row.Value.TheVariants.{Int, Word}
+use Rattle.q4_value.specs.declared.row.Value.TheVariants.{Int, Word, Null}
 use Rattle.q4_cond.specs.declared.tree.Operator.{Operator}
 use Rattle.q4_cond.specs.declared.tree.Operator.TheVariants.{Or, And, Equal, Unequal, Below, AtMost, Above, AtLeast, Add, Subtract, Multiply, Divide, Remainder}
 use Rattle.q4_cond.specs.declared.tree.Atom.{Atom}
 use Rattle.q4_cond.specs.declared.tree.Atom.TheVariants.{Column as named, Number, Text}
 use Rattle.q4_cond.specs.Tree.{Tree, Simple, Two, NotOf, MinusOf}
 
--- a whole number, or absent; or the bytes of a text atom, which only `=` and `<>` look at
+-- a whole number, or absent, as a null is; or the bytes of a text atom, which only `=` and `<>` look at
 pub data Meaning : Type 0 where
   Absent : Meaning
   Whole : ℤ → Meaning
@@ -49,7 +49,7 @@ numbers f (Whole x) (Words t) = Absent
 numbers f Absent b = Absent
 numbers f (Words s) b = Absent
 
--- texts compare by their bytes, and numbers by their values
+-- texts compare by their bytes, and numbers by their values; a side that is absent, as a null text is, makes it absent
 abbrev pub equal : (Bool → Bool) → Meaning → Meaning → Meaning
 equal f (Whole x) (Whole y) = truth (f (int_eq x y))
 equal f (Whole x) Absent = Absent
@@ -108,10 +108,12 @@ two_of Multiply = numbers (λ x y. number (in_range (x *ℤ y)))
 two_of Divide = numbers (λ x y. number (quotient x y))
 two_of Remainder = numbers (λ x y. number (remainder x y))
 
+-- the value of a column: of numbers and of texts a null is absent
 abbrev pub cell : Option Value → Meaning
 cell None = Absent
 cell (Some (Int n)) = Whole n
 cell (Some (Word w)) = Words w
+cell (Some Null) = Absent
 
 abbrev pub atom_of : List Value → Atom → Meaning
 atom_of row (named c) = cell (slice_get row c)

@@ -10,32 +10,39 @@ fn words(alloc: Global, text: &str) -> Result<Words, Fail> {
     }
 }
 
-/// The columns `prio int`, `body text` and `n int`.
-fn columns(alloc: Global) -> Result<Vec<Column>, Fail> {
+/// The columns `prio int`, `body text` and `n int`, the first two optional or not.
+fn columns(alloc: Global, optional: bool) -> Result<Vec<Column>, Fail> {
     let mut columns = Vec::new(alloc);
     columns.push(Column {
         name: words(alloc, "prio")?,
         kind: Kind::Int,
+        optional,
     })?;
     columns.push(Column {
         name: words(alloc, "body")?,
         kind: Kind::Words,
+        optional,
     })?;
     columns.push(Column {
         name: words(alloc, "n")?,
         kind: Kind::Int,
+        optional: false,
     })?;
     Ok(columns)
 }
 
-fn row(alloc: Global, prio: i64, body: &str, n: i64) -> Result<Row, Fail> {
+/// A row of these columns, with null where there is no value.
+fn row(alloc: Global, prio: Option<i64>, body: Option<&str>, n: i64) -> Result<Row, Fail> {
+    let prio = match prio {
+        Some(number) => Value::Int(number),
+        None => Value::Null,
+    };
+    let body = match body {
+        Some(text) => Value::Word(words(alloc, text)?),
+        None => Value::Null,
+    };
     let mut row = Row::new(alloc);
-    let values = [
-        Value::Int(prio),
-        Value::Word(words(alloc, body)?),
-        Value::Int(n),
-    ];
-    for value in values {
+    for value in [prio, body, Value::Int(n)] {
         if row.push(value).is_err() {
             return Err(Fail::from("no memory"));
         }
@@ -43,9 +50,9 @@ fn row(alloc: Global, prio: i64, body: &str, n: i64) -> Result<Row, Fail> {
     Ok(row)
 }
 
-/// The fault that a text reads as, or none.
-fn fault(alloc: Global, text: &str) -> Result<Option<CondFault>, Fail> {
-    match read(alloc, text, &columns(alloc)?) {
+/// The fault that a text reads as, or none, with optional columns or without.
+fn fault(alloc: Global, text: &str, optional: bool) -> Result<Option<CondFault>, Fail> {
+    match read(alloc, text, &columns(alloc, optional)?) {
         Ok(_) => Ok(None),
         Err(fault) => Ok(Some(fault)),
     }
@@ -122,7 +129,9 @@ fn texts_read_or_have_a_fault(rt: HostRuntime) -> Result<(), Fail> {
         ("prio ; 1", Some(CondFault::At(5))),
     ];
     for (text, expected) in cases {
-        assert_eq!(rt; fault(rt.alloc(), text)?, expected, "{text}");
+        for optional in [false, true] {
+            assert_eq!(rt; fault(rt.alloc(), text, optional)?, expected, "{text}");
+        }
     }
     Ok(())
 }
@@ -149,7 +158,7 @@ fn depth_and_length_have_limits(rt: HostRuntime) -> Result<(), Fail> {
     for (text, times, end, expected) in cases {
         let all = repeated(rt.alloc(), text, times, end)?;
         assert_eq!(rt;
-            fault(rt.alloc(), all.as_str())?,
+            fault(rt.alloc(), all.as_str(), false)?,
             expected,
             "{times} times {text}"
         );
@@ -230,17 +239,61 @@ fn rows_meet_conditions(rt: HostRuntime) -> Result<(), Fail> {
         ("prio", -1, "", 0, true),
         ("n <= 2 and n < 3 and n > 1 and n <> 3", 0, "", 2, true),
     ];
-    let columns = columns(rt.alloc())?;
+    let columns = columns(rt.alloc(), false)?;
+    for (text, prio, body, n, expected) in cases {
+        let Ok(cond) = read(rt.alloc(), text, &columns) else {
+            return Err(Fail::from(text));
+        };
+        let row = row(rt.alloc(), Some(prio), Some(body), n)?;
+        assert_eq!(rt; met(&cond, &row), expected, "{text}");
+        let Ok(copied) = cond.copy(rt.alloc()) else {
+            return Err(Fail::from(text));
+        };
+        assert_eq!(rt; met(&copied, &row), expected, "a copy of {text}");
+    }
+    Ok(())
+}
+
+#[test]
+fn nulls_are_absent(rt: HostRuntime) -> Result<(), Fail> {
+    let cases = [
+        ("", None, None, 0, true),
+        ("prio", None, None, 0, false),
+        ("not prio", None, None, 0, false),
+        ("prio>5", None, None, 0, false),
+        ("not prio>5", None, None, 0, false),
+        ("not prio>5", Some(0), None, 0, true),
+        ("prio=0", None, None, 0, false),
+        ("prio<>0", None, None, 0, false),
+        ("prio=prio", None, None, 0, false),
+        ("not prio=prio", None, None, 0, false),
+        ("prio+n=n", None, None, 0, false),
+        ("prio*0=0", None, None, 0, false),
+        ("-prio<=0", None, None, 0, false),
+        ("body=''", None, None, 0, false),
+        ("body<>''", None, None, 0, false),
+        ("not body=''", None, None, 0, false),
+        ("not body='a'", None, None, 0, false),
+        ("not body='a'", None, Some("b"), 0, true),
+        ("body=body", None, None, 0, false),
+        ("not body<>body", None, None, 0, false),
+        ("body=body", None, Some(""), 0, true),
+        ("prio=1 or n=0", None, None, 0, true),
+        ("n=0 or body='a'", None, None, 0, true),
+        ("prio=1 or n=1", None, None, 0, false),
+        ("not (prio=1 or n=1)", None, None, 0, false),
+        ("not (prio=1 and n=1)", None, None, 0, true),
+        ("not (prio=1 and n=0)", None, None, 0, false),
+        ("body='a' and prio=prio", None, Some("a"), 0, false),
+        ("body='a' and n=n", None, Some("a"), 0, true),
+    ];
+    let columns = columns(rt.alloc(), true)?;
     for (text, prio, body, n, expected) in cases {
         let Ok(cond) = read(rt.alloc(), text, &columns) else {
             return Err(Fail::from(text));
         };
         let row = row(rt.alloc(), prio, body, n)?;
         assert_eq!(rt; met(&cond, &row), expected, "{text}");
-        let Ok(copied) = cond.copy(rt.alloc()) else {
-            return Err(Fail::from(text));
-        };
-        assert_eq!(rt; met(&copied, &row), expected, "a copy of {text}");
     }
     Ok(())
 }
@@ -268,7 +321,7 @@ fn conditions_are_shown(rt: HostRuntime) -> Result<(), Fail> {
         ("(((body))) = ('''')", "body=''''"),
         ("0 <= n", "0<=n"),
     ];
-    let columns = columns(rt.alloc())?;
+    let columns = columns(rt.alloc(), false)?;
     for (text, expected) in cases {
         let Ok(cond) = read(rt.alloc(), text, &columns) else {
             return Err(Fail::from(text));

@@ -11,7 +11,7 @@ use q4_value::{Row, Value};
 /// An operand that is complete.
 #[derive(Clone, Copy, Default)]
 pub enum Operand<'a> {
-    /// An absent number.
+    /// What is absent: a null, or what has no result.
     #[default]
     Nothing,
     Integer(i128),
@@ -212,7 +212,7 @@ fn atom_operand<'a>(atom: &'a Atom, row: &'a Row) -> Operand<'a>
         Atom::Column(column) => match row.at(*column) {
             Some(Value::Int(number)) => Operand::Integer(i128::from(*number)),
             Some(Value::Word(words)) => Operand::Slice(words.as_str().as_bytes()),
-            None => Operand::Nothing,
+            Some(Value::Null) | None => Operand::Nothing,
         },
         Atom::Number(number) => Operand::Integer(*number),
         Atom::Text(text) => Operand::Slice(text.as_slice()),
