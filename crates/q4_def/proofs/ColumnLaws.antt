@@ -1,5 +1,5 @@
 -- A column's string spells one column, and strings that spell columns have no fault.
-use Rattle.std.proofs.Common.{◌≡◌, ◌≢◌, ◌==◌, ℕ, ◌+◌, ◌<◌, List, [], ◌∷◌, ◌++◌, length, get_or, take, map, Contains, refl, sym, ap, subst, ◌∙◌, arith, ⊎_elim, length-append}
+use Rattle.std.proofs.Common.{◌≡◌, ◌≢◌, ◌==◌, Bool, true, false, if◌then◌else◌, ℕ, ◌+◌, ◌<◌, List, [], ◌∷◌, ◌++◌, length, get_or, take, map, Contains, refl, sym, ap, subst, ◌∙◌, arith, ⊎_elim, length-append}
 use Rattle.std.specs.List.{All, AllPairs, position_or_len}
 use Rattle.std.proofs.lemmas.Bool.{ne_eqb, cases_order}
 use Rattle.std.proofs.lemmas.List.{append_cancel_left, get_or_append_left, get_or-map, length-map, take_at, get_or_at}
@@ -12,7 +12,7 @@ use Rattle.q4_value.specs.Names.{IsNameByte, IsColumnName, AreNamed}
 use Rattle.q4_value.proofs.Rows.{append_same, place_within}
 use Rattle.q4_def.specs.declared.fault.DefFault.{DefFault}
 use Rattle.q4_def.specs.declared.fault.DefFault.TheVariants as fault
-use Rattle.q4_def.specs.Document.{kind_word, column_text}
+use Rattle.q4_def.specs.Document.{kind_words, column_text}
 use Rattle.q4_def.specs.Faults.{name_part, IsRepeated, ColumnFails, FirstColumnFails}
 
 -- ---- lists in parts
@@ -72,28 +72,38 @@ pub name_part-column : (column : Column) → IsColumnName column.name → name_p
 name_part-column column named =
     let name = column.name in
     let text = column_text column in
-    let whole : length text ≡ length name + length (32 ∷ kind_word column.kind) = length-append name (32 ∷ kind_word column.kind) in
+    let whole : length text ≡ length name + length (32 ∷ kind_words column.kind column.optional) = length-append name (32 ∷ kind_words column.kind column.optional) in
     let place : position_or_len (λ b. b == 32) text ≡ length name =
     position_or_len_is (λ b. b == 32) text (length name) 0 (omega (arith, whole))
-    (λ k below. ap (λ b. b == 32) (get_or_append_left name (32 ∷ kind_word column.kind) 0 k below) ∙ ne_eqb (get_or name k 0) 32 (no_space (get_or name k 0) (named.is_name.bytes k 0 below)))
-    (λ within. ap (λ b. b == 32) (get_or_at name 32 (kind_word column.kind) 0 (length name) refl)) in
-    ap (λ n. take n text) place ∙ take_at name (32 ∷ kind_word column.kind) (length name) refl
+    (λ k below. ap (λ b. b == 32) (get_or_append_left name (32 ∷ kind_words column.kind column.optional) 0 k below) ∙ ne_eqb (get_or name k 0) 32 (no_space (get_or name k 0) (named.is_name.bytes k 0 below)))
+    (λ within. ap (λ b. b == 32) (get_or_at name 32 (kind_words column.kind column.optional) 0 (length name) refl)) in
+    ap (λ n. take n text) place ∙ take_at name (32 ∷ kind_words column.kind column.optional) (length name) refl
 
-kind_same : (one other : Kind) → kind_word one ≡ kind_word other → one ≡ other
-kind_same kind.Int kind.Int e = refl
-kind_same kind.Int kind.Words e = absurd cc
-kind_same kind.Words kind.Int e = absurd cc
-kind_same kind.Words kind.Words e = refl
+-- which kind has so many letters, and whether its column is optional
+abbrev kind_of_length : ℕ → Kind × Bool
+kind_of_length count = if count == 3 then (kind.Int, false) else (if count == 4 then (kind.Words, false) else (if count == 8 then (kind.Int, true) else (kind.Words, true)))
+
+kind_told : (k : Kind) (optional : Bool) → ◌≡◌ {A = Kind × Bool} (kind_of_length (length (kind_words k optional))) (k, optional)
+kind_told kind.Int false = refl
+kind_told kind.Words false = refl
+kind_told kind.Int true = refl
+kind_told kind.Words true = refl
+
+kind_same : (one other : Kind) (a b : Bool) → kind_words one a ≡ kind_words other b → ◌≡◌ {A = Kind × Bool} (one, a) (other, b)
+kind_same one other a b same = sym (kind_told one a) ∙ ap (λ words. kind_of_length (length words)) same ∙ kind_told other b
+
+named_so : List ℕ → Kind × Bool → Column
+named_so name kind = record { name = name; kind = kind.0; optional = kind.1 }
 
 pub column_same : (one other : Column) → IsColumnName one.name → IsColumnName other.name → column_text one ≡ column_text other → one ≡ other
+unfolding named_so
 column_same one other named named' same =
+    let words = kind_words one.kind one.optional in
+    let words' = kind_words other.kind other.optional in
     let names : one.name ≡ other.name = sym (name_part-column one named) ∙ ap name_part same ∙ name_part-column other named' in
-    let tails : 32 ∷ kind_word one.kind ≡ 32 ∷ kind_word other.kind =
-    append_cancel_left other.name (32 ∷ kind_word one.kind) (32 ∷ kind_word other.kind) (ap (λ n. n ++ 32 ∷ kind_word one.kind) (sym names) ∙ same) in
-    let kinds : one.kind ≡ other.kind = kind_same one.kind other.kind cc in
-    let first : Column = record { name = other.name; kind = one.kind } in
-    let left : one ≡ first = ap (λ (n : List ℕ). let c : Column = record { name = n; kind = one.kind } in c) names in
-    left ∙ ap (λ (k : Kind). let c : Column = record { name = other.name; kind = k } in c) kinds
+    let tails : 32 ∷ words ≡ 32 ∷ words' = append_cancel_left other.name (32 ∷ words) (32 ∷ words') (ap (λ n. n ++ 32 ∷ words) (sym names) ∙ same) in
+    let kinds = kind_same one.kind other.kind one.optional other.optional cc in
+    ap (λ n. named_so n (one.kind, one.optional)) names ∙ ap (named_so other.name) kinds
 
 pub columns_same : (ones others : List Column) → All (λ c. IsColumnName c.name) ones → All (λ c. IsColumnName c.name) others → map column_text ones ≡ map column_text others → ones ≡ others
 columns_same [] [] named named' same = refl
@@ -114,7 +124,7 @@ no_column_fault earlier column text i j (fault.BadName a b) is named fresh fails
     fails.2 (subst IsColumnName (sym (ap name_part is ∙ name_part-column column named)) named)
 no_column_fault earlier column text i j (fault.BadKind a b) is named fresh fails =
     let part : name_part text ≡ column.name = ap name_part is ∙ name_part-column column named in
-    fails.3 column.kind (is ∙ ap (λ n. n ++ 32 ∷ kind_word column.kind) (sym part))
+    fails.3 column.kind column.optional (is ∙ ap (λ n. n ++ 32 ∷ kind_words column.kind column.optional) (sym part))
 no_column_fault earlier column text i j (fault.Twice a b) is named fresh fails =
     let r = fails.2 in
     let same : r.column ≡ column = column_same r.column column r.named named (sym r.is_column ∙ is) in
@@ -131,14 +141,14 @@ when_bad_name earlier text i j (fault.Twice a b) bad fails =
     absurd (bad (subst IsColumnName (sym (ap name_part r.is_column ∙ name_part-column r.column r.named)) r.named))
 when_bad_name earlier text i j why bad fails = absurd fails
 
-when_bad_kind : (earlier : List Column) (text : List ℕ) (i j : ℕ) (why : DefFault) → IsColumnName (name_part text) → ((kind : Kind) → text ≢ name_part text ++ 32 ∷ kind_word kind)
+when_bad_kind : (earlier : List Column) (text : List ℕ) (i j : ℕ) (why : DefFault) → IsColumnName (name_part text) → ((kind : Kind) (optional : Bool) → text ≢ name_part text ++ 32 ∷ kind_words kind optional)
     → ColumnFails earlier text i j why → why ≡ fault.BadKind i j
 when_bad_kind earlier text i j (fault.BadName a b) named bad fails = absurd (fails.2 named)
 when_bad_kind earlier text i j (fault.BadKind a b) named bad fails = ap (λ x. fault.BadKind x b) fails.0 ∙ ap (λ x. fault.BadKind i x) fails.1
 when_bad_kind earlier text i j (fault.Twice a b) named bad fails =
     let r = fails.2 in
     let part : name_part text ≡ r.column.name = ap name_part r.is_column ∙ name_part-column r.column r.named in
-    absurd (bad r.column.kind (r.is_column ∙ ap (λ n. n ++ 32 ∷ kind_word r.column.kind) (sym part)))
+    absurd (bad r.column.kind r.column.optional (r.is_column ∙ ap (λ n. n ++ 32 ∷ kind_words r.column.kind r.column.optional) (sym part)))
 when_bad_kind earlier text i j why named bad fails = absurd fails
 
 when_repeated : (earlier : List Column) (text : List ℕ) (i j : ℕ) (why : DefFault) → IsRepeated earlier text → ColumnFails earlier text i j why → why ≡ fault.Twice i j
@@ -146,7 +156,7 @@ when_repeated earlier text i j (fault.BadName a b) r fails =
     absurd (fails.2 (subst IsColumnName (sym (ap name_part r.is_column ∙ name_part-column r.column r.named)) r.named))
 when_repeated earlier text i j (fault.BadKind a b) r fails =
     let part : name_part text ≡ r.column.name = ap name_part r.is_column ∙ name_part-column r.column r.named in
-    absurd (fails.3 r.column.kind (r.is_column ∙ ap (λ n. n ++ 32 ∷ kind_word r.column.kind) (sym part)))
+    absurd (fails.3 r.column.kind r.column.optional (r.is_column ∙ ap (λ n. n ++ 32 ∷ kind_words r.column.kind r.column.optional) (sym part)))
 when_repeated earlier text i j (fault.Twice a b) r fails = ap (λ x. fault.Twice x b) fails.0 ∙ ap (λ x. fault.Twice i x) fails.1
 when_repeated earlier text i j why r fails = absurd fails
 

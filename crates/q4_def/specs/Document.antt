@@ -1,5 +1,5 @@
 -- The definitions that a document has, by what `toml` reads in it.
-use Rattle.std.specs.Prelude.{◌≡◌, ℕ, ◌<◌, List, [], ◌∷◌, ◌++◌, length, map, Some, None, Contains, IsUtf8, codes}
+use Rattle.std.specs.Prelude.{◌≡◌, ℕ, ◌<◌, Bool, true, false, List, [], ◌∷◌, ◌++◌, length, map, Some, None, Contains, IsUtf8, codes}
 use Rattle.std.specs.List.{AllZip}
 use Rattle.toml.specs.Data.{Data, string, array, table, Members, get_member}
 use Rattle.toml.specs.View.{items_of}
@@ -37,13 +37,16 @@ pub record HasEntries (member : Data) (name : List ℕ) (columns : List Data) : 
 abbrev pub IsTable : Data → List ℕ → List (List ℕ) → Type 0
 IsTable member name texts = HasEntries member name (map string texts)
 
-abbrev pub kind_word : Kind → List ℕ
-kind_word kind.Int = codes "int"
-kind_word kind.Words = codes "text"
+-- the words of a column of numbers or texts, which is optional or not
+abbrev pub kind_words : Kind → Bool → List ℕ
+kind_words kind.Int false = codes "int"
+kind_words kind.Words false = codes "text"
+kind_words kind.Int true = codes "int null"
+kind_words kind.Words true = codes "text null"
 
--- the string of a column: its name, one space, and the word of its kind
+-- the string of a column: its name, one space, and the words of its kind
 abbrev pub column_text : Column → List ℕ
-column_text column = column.name ++ 32 ∷ kind_word column.kind
+column_text column = column.name ++ 32 ∷ kind_words column.kind column.optional
 
 -- the member of the document defines this table
 abbrev pub Defines : Data → TableDef → Type 0

@@ -1,6 +1,6 @@
 -- Which fault a file of definitions has: the first one in the order of these rules. Tables and columns are counted from 1,
 -- and column 0 is the table's own name.
-use Rattle.std.specs.Prelude.{◌≡◌, ◌≢◌, ◌==◌, ℕ, ◌+◌, ◌<◌, ◌≤◌, ◌⊎◌, List, [], ◌∷◌, ◌++◌, length, map, Contains}
+use Rattle.std.specs.Prelude.{◌≡◌, ◌≢◌, ◌==◌, ℕ, ◌+◌, ◌<◌, ◌≤◌, ◌⊎◌, Bool, List, [], ◌∷◌, ◌++◌, length, map, Contains}
 use Rattle.std.specs.List.{AllZip, before_first}
 use Rattle.toml.specs.Data.{Data, Members}
 use Rattle.q4_value.specs.declared.column.Column.{Column}
@@ -10,7 +10,7 @@ use Rattle.q4_def.specs.declared.fault.DefFault.{DefFault}
 use Rattle.q4_def.specs.declared.fault.DefFault.TheVariants as fault
 use Rattle.q4_def.specs.declared.table_def.TableDef.{TableDef}
 use Rattle.q4_def.specs.Tables.{AreDistinct, names_of}
-use Rattle.q4_def.specs.Document.{IsToml, HasTables, IsTable, Defines, kind_word, column_text}
+use Rattle.q4_def.specs.Document.{IsToml, HasTables, IsTable, Defines, kind_words, column_text}
 
 -- what stands before the first space of a column's string, or all of it where there is none
 abbrev pub name_part : List ℕ → List ℕ
@@ -27,7 +27,7 @@ pub record IsRepeated (earlier : List Column) (text : List ℕ) : Type 0 where
 abbrev pub PartFails : List ℕ → ℕ → ℕ → DefFault → Type 0
 PartFails text table place (fault.BadName i j) = (i ≡ table) × (j ≡ place) × (IsColumnName (name_part text) → ⊥)
 PartFails text table place (fault.BadKind i j) = (i ≡ table) × (j ≡ place) × IsColumnName (name_part text)
-    × ((kind : Kind) → text ≢ name_part text ++ 32 ∷ kind_word kind)
+    × ((kind : Kind) (optional : Bool) → text ≢ name_part text ++ 32 ∷ kind_words kind optional)
 PartFails text table place _ = ⊥
 
 -- Why it is none behind the earlier columns of its table: in itself, else a name that stands twice.

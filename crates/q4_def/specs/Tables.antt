@@ -1,5 +1,5 @@
 -- What a list of definitions has to be, and the one that an empty file gives.
-use Rattle.std.specs.Prelude.{◌≢◌, ℕ, ◌<◌, ◌≤◌, List, [], ◌∷◌, length, map, All, AllPairs, codes}
+use Rattle.std.specs.Prelude.{◌≢◌, ℕ, ◌<◌, ◌≤◌, false, List, [], ◌∷◌, length, map, All, AllPairs, codes}
 use Rattle.q4_value.specs.declared.column.Column.{Column}
 use Rattle.q4_value.specs.declared.column.Kind.TheVariants as kind
 use Rattle.q4_value.specs.Names.{IsName, AreColumns}
@@ -23,7 +23,8 @@ pub record AreDefs (defs : List TableDef) : Type 0 where
 
 -- the columns of the table that an empty file gives: a number and a text
 abbrev pub built_in_columns : List Column
-built_in_columns = record { name = codes "prio"; kind = kind.Int } ∷ record { name = codes "body"; kind = kind.Words } ∷ []
+built_in_columns =
+    record { name = codes "prio"; kind = kind.Int; optional = false } ∷ record { name = codes "body"; kind = kind.Words; optional = false } ∷ []
 
 -- the definitions that an empty file gives
 abbrev pub built_in : List TableDef

@@ -28,7 +28,8 @@ pub enum DefFault {
     /// An earlier table, or an earlier column of this table, has the name.
     #[error("twice {0} {1}")]
     Twice(u32, u32),
-    /// Behind the column's name and one space there is neither `int` nor `text`.
+    /// Behind the column's name and one space there is none of `int`, `text`, `int null` and
+    /// `text null`.
     #[error("bad kind {0} {1}")]
     BadKind(u32, u32),
     /// Memory was wanted and could not be had.

@@ -44,20 +44,22 @@ fn built_in(alloc: Global) -> Result<Vec<TableDef>, NoMemory>
     ensures { IfOk result (λ tables. tables.items ≡ built_in_tables) }
 {
     let mut columns = Columns::new(alloc);
-    push_column(&mut columns, new_column(alloc, "prio", Kind::Int)?)?;
-    push_column(&mut columns, new_column(alloc, "body", Kind::Words)?)?;
+    push_column(&mut columns, new_column(alloc, "prio", Kind::Int, false)?)?;
+    push_column(&mut columns, new_column(alloc, "body", Kind::Words, false)?)?;
     let mut tables = Vec::new(alloc);
     let name = Words::new(alloc, "jobs")?;
     push_table(&mut tables, TableDef { name, columns })?;
     Ok(tables)
 }
 
-fn new_column(alloc: Global, name: &str, kind: Kind) -> Result<Column, NoMemory>
-    ensures { IfOk result (λ column. column ≡ record { name = name.now; kind = kind }) }
+fn new_column(alloc: Global, name: &str, kind: Kind, optional: bool) -> Result<Column, NoMemory>
+    ensures { IfOk result
+        (λ column. column ≡ record { name = name.now; kind = kind; optional = optional }) }
 {
     Ok(Column {
         name: Words::new(alloc, name)?,
         kind,
+        optional,
     })
 }
 
@@ -182,29 +184,32 @@ fn read_column(
     ensures cause { IfErr result (OrMemory (ColumnFails earlier.now text.now table (length earlier.now + 1))) }
 {
     let place = earlier.len() as u32 + 1;
-    let (name, kind) = split_column(text, table, place)?;
+    let (name, kind, optional) = split_column(text, table, place)?;
     if has_column(earlier, name) {
         return Err(DefFault::Twice(table, place));
     }
-    Ok(new_column(alloc, name, kind)?)
+    Ok(new_column(alloc, name, kind, optional)?)
 }
 
-// The name and the kind of a column, which has this place.
-fn split_column(text: &str, table: u32, place: u32) -> Result<(&str, Kind), DefFault>
-    ensures column { IfOk result (λ parts. text.now ≡ column_text (record { name = parts.0.now; kind = parts.1 })) }
+// The name and the kind of a column, which has this place, and whether it is optional.
+fn split_column(text: &str, table: u32, place: u32) -> Result<(&str, Kind, bool), DefFault>
+    ensures column { IfOk result (λ parts. text.now
+        ≡ column_text (record { name = parts.0.now; kind = parts.1; optional = parts.2 })) }
     ensures named { IfOk result (λ parts. IsColumnName parts.0.now) }
     ensures cause { IfErr result (PartFails text.now table place) }
 {
-    let (name, word) = match text.split_once(' ') {
-        Some((name, word)) => (name, word),
+    let (name, words) = match text.split_once(' ') {
+        Some((name, words)) => (name, words),
         None => (text, ""),
     };
     if !is_column_name(name) {
         return Err(DefFault::BadName(table, place));
     }
-    match word {
-        "int" => Ok((name, Kind::Int)),
-        "text" => Ok((name, Kind::Words)),
+    match words {
+        "int" => Ok((name, Kind::Int, false)),
+        "text" => Ok((name, Kind::Words, false)),
+        "int null" => Ok((name, Kind::Int, true)),
+        "text null" => Ok((name, Kind::Words, true)),
         _ => Err(DefFault::BadKind(table, place)),
     }
 }

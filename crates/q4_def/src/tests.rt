@@ -42,9 +42,11 @@ fn columns_of(rt: &impl Abort, alloc: Global, def: &TableDef) -> Result<String, 
     let mut text = String::new(alloc);
     for place in 0..def.columns.len() {
         let column = def.columns.at(place).ok_or("column")?;
-        let kind = match column.kind {
-            Kind::Int => "int",
-            Kind::Words => "text",
+        let kind = match (column.kind, column.optional) {
+            (Kind::Int, false) => "int",
+            (Kind::Int, true) => "int null",
+            (Kind::Words, false) => "text",
+            (Kind::Words, true) => "text null",
         };
         text.push_str(format!(in alloc; "{} {};", column.name.as_str(), kind)?.as_str())?;
     }
@@ -91,6 +93,24 @@ fn no_byte_is_the_built_in_table(rt: HostRuntime) -> Result<(), Fail> {
         columns_of(&rt, alloc, jobs)?.as_str(),
         "prio int;body text;"
     );
+    Ok(())
+}
+
+#[test]
+fn optional_columns(rt: HostRuntime) -> Result<(), Fail> {
+    let alloc = rt.alloc();
+    let defs = read(
+        &rt,
+        alloc,
+        "[[table]]\nname = 't'\ncolumns = ['n int null', 's text null', 'm int', 'null text']",
+    );
+    for defs in [&defs, &defs.copy(alloc).expect(&rt, "memory")] {
+        let table = defs.table(0).ok_or("t")?;
+        assert_eq!(rt;
+            columns_of(&rt, alloc, table)?.as_str(),
+            "n int null;s text null;m int;null text;"
+        );
+    }
     Ok(())
 }
 
@@ -242,6 +262,15 @@ fn faults_of_a_column(rt: HostRuntime) -> Result<(), Fail> {
         ("\"n int \"", DefFault::BadKind(1, 1)),
         ("\"n int\\t\"", DefFault::BadKind(1, 1)),
         ("\"n Int\"", DefFault::BadKind(1, 1)),
+        ("\"n null\"", DefFault::BadKind(1, 1)),
+        ("\"n null int\"", DefFault::BadKind(1, 1)),
+        ("\"n int  null\"", DefFault::BadKind(1, 1)),
+        ("\"n int null \"", DefFault::BadKind(1, 1)),
+        ("\"n int nulls\"", DefFault::BadKind(1, 1)),
+        ("\"n int NULL\"", DefFault::BadKind(1, 1)),
+        ("\"n int\\tnull\"", DefFault::BadKind(1, 1)),
+        ("\"n text null null\"", DefFault::BadKind(1, 1)),
+        ("\"n int null\", \"n int\"", DefFault::Twice(1, 2)),
         ("\"n\\tint\"", DefFault::BadName(1, 1)),
         ("\"\"", DefFault::BadName(1, 1)),
         ("\" int\"", DefFault::BadName(1, 1)),

@@ -7,7 +7,7 @@ returns-then-has_column-clause-cause c =
       refl,
       refl,
       record {
-        column = record { name = c.in_ok-name.name.now; kind = c.in_ok-name.kind };
+        column = record { name = c.in_ok-name.name.now; kind = c.in_ok-name.kind; optional = c.in_ok-name.optional };
         is_column = parts.column;
         named = parts.named;
         repeated = c.has_column.ensures.0 c.if-has_column.true;
