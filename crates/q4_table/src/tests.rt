@@ -18,7 +18,15 @@ fn columns_of(rt: &impl Abort, alloc: Global, named: &[(&str, Kind)]) -> Columns
     let mut columns = Columns::new(alloc);
     for (name, kind) in named {
         let name = Words::new(alloc, name).expect(rt, "memory");
-        assert!(rt; columns.push(Column { name, kind: *kind }).is_ok());
+        assert!(rt;
+            columns
+                .push(Column {
+                    name,
+                    kind: *kind,
+                    optional: false
+                })
+                .is_ok()
+        );
     }
     assert!(rt; columns.len() >= 1 && columns.len() <= 32);
     columns
