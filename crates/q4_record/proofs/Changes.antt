@@ -71,7 +71,7 @@ parts table row (Some origin) is e =
     let valid : IsOrigin origin = is origin refl in
     (room table row u.1, (valid, above origin.mode origin.number mark u.0), omega (arith, valid.number))
 
-pub added_stands : (table : TableState) (row : List Value) (origin : Option Origin) → IsValidTable table → Fits table.columns row → ForSome origin IsOrigin → check_of table row origin ≡ check.New → Stands (at_batches table) (record { head = Insert table.next origin; row = row })
+pub added_stands : (table : TableState) (row : List Value) (origin : Option Origin) → IsValidTable table → Fits table.columns row → ForSome origin IsOrigin → check_of table row origin ≡ check.New → Stands (at_batches table) (record { head = Insert table.next origin; columns = table.columns; row = row })
 added_stands table row origin valid fits is e =
     let p = parts table row origin is e in
     let has = p.0 in
@@ -89,7 +89,7 @@ added_stands table row origin valid fits is e =
       size = fits.size;
     } in
     record {
-      is = record { head = (omega (arith, limit), p.2); row = wide_row table.columns row fits.row_of };
+      is = record { head = (omega (arith, limit), p.2); columns_are = refl; row = wide_row table.columns row fits.row_of };
       may = (refl, p.1);
       within = passes_none (add_row table row origin) row within;
     }
@@ -106,14 +106,14 @@ there_below : (low next number : ℕ) (rows : List StoredRow) → RiseBelow low 
 there_below low next number [] rise is = absurd (none_some number is)
 there_below low next number (r ∷ rs) rise is = found_below low next number r rs (eqb r.number number) refl rise is (there_below r.number next number rs rise.2)
 
-pub ended_stands : (table : TableState) (number : ℕ) → IsValidTable table → IsThere table.rows number → Stands (at_batches table) (record { head = End number; row = [] })
+pub ended_stands : (table : TableState) (number : ℕ) → IsValidTable table → IsThere table.rows number → Stands (at_batches table) (record { head = End number; columns = []; row = [] })
 ended_stands table number valid is =
     let limit = valid.limit in
     let below = there_below 0 table.next number table.rows valid.numbers is in
     let count = valid.count in
     let whole : passed_limit table [] ≡ None = passes_none table [] (record { rows = count; bytes = valid.bytes; next = limit; short = refl; size = omega arith }) in
     record {
-      is = record { head = omega (arith, below, limit); row = record { kinds = refl; values = All-nil IsWideValue } };
+      is = record { head = omega (arith, below, limit); columns_are = refl; row = record { taken = tt; values = All-nil IsWideValue } };
       may = is;
       within = ended_within table number whole;
     }

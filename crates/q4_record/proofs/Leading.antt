@@ -1,7 +1,6 @@
 -- Records that stand lead from valid tables to valid tables, in which nobody owns a row.
-use Rattle.std.proofs.Common.{◌≡◌, ◌≢◌, ℕ, ◌+◌, ◌<◌, ◌≤◌, Bool, true, false, cond, eqb, ltb, List, [], ◌∷◌, Option, None, Some, length, refl, sym, ap, subst, ◌∙◌, arith}
+use Rattle.std.proofs.Common.{◌≡◌, ℕ, ◌+◌, ◌<◌, ◌≤◌, Bool, true, false, cond, eqb, ltb, List, [], ◌∷◌, Option, None, Some, length, refl, sym, ap, subst, ◌∙◌, arith}
 use Rattle.std.specs.Option.{ForSome}
-use Rattle.std.specs.List.{All, sum_by}
 use Rattle.std.proofs.lemmas.Bool.{le-ltb}
 use Rattle.std.proofs.lemmas.List.{length_push}
 use Rattle.std.proofs.lemmas.List.Elements.{All-nil, All-push, All-filter}
@@ -11,28 +10,28 @@ use Rattle.q4_value.specs.declared.row.Value.{Value}
 use Rattle.q4_value.specs.Row.{Fits, row_size}
 use Rattle.q4_table.specs.declared.adding.Check.{Check}
 use Rattle.q4_table.specs.declared.adding.Check.TheVariants as check
-use Rattle.q4_table.specs.declared.marks.Mark as marks
 use Rattle.q4_table.specs.declared.origin.Origin.{Origin}
 use Rattle.q4_table.specs.declared.rows.StoredRow.{StoredRow}
 use Rattle.q4_table.specs.TableState.{TableState, new_table}
 use Rattle.q4_table.specs.Rows.{bytes_of}
 use Rattle.q4_table.specs.Marks.{with_mark}
-use Rattle.q4_table.specs.Adding.{IsOrigin, room_for, add_row, number_limit, count_limit, bytes_limit}
-use Rattle.q4_table.specs.Valid.{IsColumns, IsMark, IsMarks, IsValidTable}
+use Rattle.q4_table.specs.Adding.{IsOrigin, room_for, number_limit, count_limit, bytes_limit}
+use Rattle.q4_table.specs.Valid.{IsColumns, IsMark}
 use Rattle.q4_table.proofs.Marking.{marks-with}
 use Rattle.q4_table.proofs.Validity.{valid-added, valid-marked, valid-next, valid-removed}
 use Rattle.q4_record.specs.declared.head.Head.{Head}
 use Rattle.q4_record.specs.declared.head.Head.TheVariants.{Insert, End, Mark, Next}
+use Rattle.q4_record.specs.declared.header.Format.{Format}
 use Rattle.q4_record.specs.declared.replay.Replay.{Replay}
 use Rattle.q4_record.specs.declared.replay.Stage.{Stage}
 use Rattle.q4_record.specs.declared.replay.Stage.TheVariants as stage
 use Rattle.q4_record.specs.Wide.{IsWideRow}
 use Rattle.q4_record.specs.Record.{Record, row_columns}
-use Rattle.q4_record.specs.Replay.{MayInsert, MayMark, MayNext, MayCome, table_after, replayed, replays, at_base, at_batches, passed_limit, Stands, AllStand}
-use Rattle.q4_record.specs.Side.{IsBase, BatchesStand, after_batches, Side}
+use Rattle.q4_record.specs.Replay.{MayInsert, MayMark, MayNext, MayCome, table_after, replayed, replays, at_base, at_batches, passed_limit, AllStand}
+use Rattle.q4_record.specs.Side.{format_of, base_of, IsBase, BatchesStand, after_batches, Side}
 use Rattle.q4_record.specs.Written.{IsSound}
 use Rattle.q4_record.proofs.Cuts.{short_row}
-use Rattle.q4_record.proofs.Limits.{Within, within}
+use Rattle.q4_record.proofs.Limits.{within}
 
 not_spent : (b : Bool) (o : Check) → b ≡ false → o ≡ check.New → cond b check.Spent o ≡ check.New
 not_spent true o off e = absurd cc
@@ -135,12 +134,12 @@ sound_new columns is = record {
   unowned = All-nil (λ (r : StoredRow). r.owner ≡ None);
 }
 
-sound_base : (columns : List Column) (base : List ℕ) (table : TableState) → IsColumns columns → IsBase columns base table → IsSound columns table
-sound_base columns base table is b = subst (λ (replay : Replay). IsSound columns replay.table) b.replay_is (sound_records columns (at_base columns) b.records (sound_new columns is) b.stand)
+sound_base : (format : Format) (columns : List Column) (base : List ℕ) (table : TableState) → IsColumns columns → IsBase format columns base table → IsSound columns table
+sound_base format columns base table is b = subst (λ (replay : Replay). IsSound columns replay.table) b.replay_is (sound_records columns (at_base columns) b.records (sound_new columns is) b.stand)
 
 pub sound_side : (columns : List Column) (bytes : List ℕ) (table : TableState) (generation len : ℕ) → IsColumns columns → Side columns bytes table generation len → IsSound columns table
 sound_side columns bytes table generation len is side =
     let w = side.stands in
     let r = w.reaches in
-    let sound = sound_batches columns (at_batches r.base_table) w.batches (sound_base columns _ r.base_table is r.base) r.stand in
+    let sound = sound_batches columns (at_batches r.base_table) w.batches (sound_base (format_of bytes) columns (base_of bytes) r.base_table is r.base) r.stand in
     subst (IsSound columns) (ap (λ (replay : Replay). replay.table) (sym r.replay_is) ∙ sym w.table_is) sound

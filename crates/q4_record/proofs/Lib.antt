@@ -1,3 +1,4 @@
+pub mod RowParts
 pub mod WideRows
 pub mod Cuts
 pub mod Extending

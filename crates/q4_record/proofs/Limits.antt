@@ -1,5 +1,5 @@
 -- What it means that no limit is passed, and which records pass none.
-use Rattle.std.proofs.Common.{◌≡◌, ℕ, ◌≤◌, Bool, true, false, cond, ltb, List, [], Option, None, Some, length, not, eqb, refl, arith}
+use Rattle.std.proofs.Common.{◌≡◌, ℕ, ◌<◌, ◌≤◌, Bool, true, false, cond, ltb, List, [], Option, None, Some, length, not, eqb, refl, arith}
 use Rattle.std.specs.List.{list_any}
 use Rattle.std.proofs.lemmas.Bool.{ltb-false, le-ltb}
 use Rattle.std.proofs.lemmas.List.Filters.{length-filter_both, sum_by-filter_both}
@@ -50,6 +50,22 @@ passes_none table row w =
     (if_none (ltb number_limit table.next) 3 _ (le-ltb number_limit table.next w.next)
     (if_none (list_any is_long row) 4 _ w.short
     (if_none (ltb row_limit (row_size row)) 5 None (le-ltb row_limit (row_size row) w.size) refl))))
+
+skip : (b : Bool) (n : ℕ) (o p : Option ℕ) → b ≡ false → o ≡ p → cond b (Some n) o ≡ p
+skip true n o p off e = absurd cc
+skip false n o p off e = e
+
+stop : (b : Bool) (n : ℕ) (o : Option ℕ) → b ≡ true → cond b (Some n) o ≡ Some n
+stop true n o on = refl
+stop false n o on = absurd cc
+
+-- Too great a next number is the least limit that is passed.
+pub next_passed : (table : TableState) (number : ℕ) → passed_limit table [] ≡ None → number_limit < number → passed_limit (record table { next = number }) [] ≡ Some 3
+next_passed table number e lt =
+    let w = within table [] e in
+    let on : ltb number_limit number ≡ true = grind arith in
+    skip (ltb count_limit (length table.rows)) 1 _ (Some 3) (le-ltb count_limit (length table.rows) w.rows)
+    (skip (ltb bytes_limit (bytes_of table.rows)) 2 _ (Some 3) (le-ltb bytes_limit (bytes_of table.rows) w.bytes) (stop (ltb number_limit number) 3 _ on))
 
 -- The rows that are left are no more and no larger.
 pub ended_within : (table : TableState) (number : ℕ) → passed_limit table [] ≡ None → passed_limit (record table { rows = without_row number table.rows }) [] ≡ None

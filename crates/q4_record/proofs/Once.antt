@@ -19,16 +19,21 @@ use Rattle.q4_record.proofs.Heads.{head_once}
 -- no two records stand at the front of the same bytes
 pub record_once : (columns : List Column) (r s : Record) (x y : List ℕ) → IsRecord columns r → IsRecord columns s → record_bytes r ++ x ≡ record_bytes s ++ y → (r ≡ s) × (x ≡ y)
 record_once columns r s x y is also e =
-    let heads = head_once r.head s.head (row_bytes r.row ++ x) (row_bytes s.row ++ y) is.head also.head (sym (append_assoc (head_bytes r.head) (row_bytes r.row) x) ∙ e ∙ append_assoc (head_bytes s.head) (row_bytes s.row) y) in
-    let rows = rows_once (row_columns columns r.head) r.row s.row x y is.row (subst (λ h. IsWideRow (row_columns columns h) s.row) (sym heads.0) also.row) heads.1 in
-    ((λ i. record { head = heads.0 i; row = rows.0 i }), rows.1)
+    let heads = head_once r.head s.head (row_bytes r.columns r.row ++ x) (row_bytes s.columns s.row ++ y) is.head also.head (sym (append_assoc (head_bytes r.head) (row_bytes r.columns r.row) x) ∙ e ∙ append_assoc (head_bytes s.head) (row_bytes s.columns s.row) y) in
+    let own = row_columns columns r.head in
+    let other : s.columns ≡ own = also.columns_are ∙ ap (row_columns columns) (sym heads.0) in
+    let rows = rows_once own r.row s.row x y is.row (subst (λ h. IsWideRow (row_columns columns h) s.row) (sym heads.0) also.row)
+    (ap (λ cs. row_bytes cs r.row ++ x) (sym is.columns_are) ∙ heads.1 ∙ ap (λ cs. row_bytes cs s.row ++ y) other) in
+    let columns_same : r.columns ≡ s.columns = is.columns_are ∙ sym other in
+    ((λ i. record { head = heads.0 i; columns = columns_same i; row = rows.0 i }), rows.1)
 
 -- a record that breaks off is none that stands
 breaks_not : (old : Replay) (bytes : List ℕ) (r : Record) (rest : List ℕ) → BreaksOff old bytes → IsRecord old.table.columns r → bytes ≡ record_bytes r ++ rest → ⊥
 breaks_not old bytes r rest b is e =
     let columns = old.table.columns in
-    let heads = head_once b.head r.head b.row (row_bytes r.row ++ rest) b.is is.head (sym b.bytes_are ∙ e ∙ append_assoc (head_bytes r.head) (row_bytes r.row) rest) in
-    cut_not_whole (row_columns columns b.head) b.row r.row rest b.cut (subst (λ h. IsWideRow (row_columns columns h) r.row) (sym heads.0) is.row) heads.1
+    let heads = head_once b.head r.head b.row (row_bytes r.columns r.row ++ rest) b.is is.head (sym b.bytes_are ∙ e ∙ append_assoc (head_bytes r.head) (row_bytes r.columns r.row) rest) in
+    let own : r.columns ≡ row_columns columns b.head = is.columns_are ∙ ap (row_columns columns) (sym heads.0) in
+    cut_not_whole (row_columns columns b.head) b.row r.row rest b.cut (subst (λ h. IsWideRow (row_columns columns h) r.row) (sym heads.0) is.row) (heads.1 ∙ ap (λ cs. row_bytes cs r.row ++ rest) own)
 
 passed_once : (old : Replay) (r s : Record) (one other : Option ℕ) → r ≡ s → passed_limit (replayed old r).table r.row ≡ one → passed_limit (replayed old s).table s.row ≡ other → one ≡ other
 passed_once old r s one other same e f = sym e ∙ ap (λ (q : Record). passed_limit (replayed old q).table q.row) same ∙ f
@@ -95,7 +100,7 @@ compare old (r ∷ rs) (s ∷ ss) x y a b e =
     ]
 
 some_record : (r : Record) (after : List ℕ) → [] ≡ record_bytes r ++ after → ⊥
-some_record r after e = some_head r.head (row_bytes r.row ++ after) (e ∙ append_assoc (head_bytes r.head) (row_bytes r.row) after)
+some_record r after e = some_head r.head (row_bytes r.columns r.row ++ after) (e ∙ append_assoc (head_bytes r.head) (row_bytes r.columns r.row) after)
   where
     some_head : (head : Head) (more : List ℕ) → [] ≡ head_bytes head ++ more → ⊥
     some_head (Insert n None) more e = absurd cc

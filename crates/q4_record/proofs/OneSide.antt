@@ -1,6 +1,7 @@
 -- Bytes are one side at most, or fail in one way.
 use Rattle.std.proofs.Common.{◌≡◌, ◌≢◌, ℕ, suc, ◌+◌, ◌^◌, ◌<◌, ◌≤◌, ◌⊎◌, List, [], ◌∷◌, ◌++◌, Result, Ok, Err, length, get_or, drop, inl, inr, refl, sym, ap, subst, ◌∙◌, append_assoc, arith}
 use Rattle.std.specs.Prelude.{IfOk, IfErr}
+use Rattle.std.specs.List.{All}
 use Rattle.std.specs.Int.{w32, to_be_bytes}
 use Rattle.std.proofs.lemmas.List.{append_cancel_left, length-append, length-drop}
 use Rattle.std.proofs.lemmas.Nat.{from_be_bytes-to_be_bytes_4}
@@ -8,14 +9,15 @@ use Rattle.q4_value.specs.declared.column.Column.{Column}
 use Rattle.q4_value.specs.Reading.{told_length}
 use Rattle.q4_value.proofs.Rows.{append_same}
 use Rattle.q4_table.specs.TableState.{TableState}
+use Rattle.q4_record.specs.declared.header.Format.{Format}
 use Rattle.q4_record.specs.declared.replay.Replay.{Replay}
 use Rattle.q4_record.specs.declared.side.SideFault.{SideFault}
 use Rattle.q4_record.specs.declared.side.SideFault.TheVariants as fault
 use Rattle.q4_record.specs.Record.{Record, records_bytes}
 use Rattle.q4_record.specs.Replay.{replays, at_base, at_batches, AllStand}
 use Rattle.q4_record.specs.Reading.{SectionFails}
-use Rattle.q4_record.specs.Schema.{schema_bytes, IsSchema, DifferFirst, DifferAt, OtherSchema, SchemaFails}
-use Rattle.q4_record.specs.Side.{side_limit, base_at, base_length_of, base_of, IsOpen, Begins, IsBase, batch_bytes, batches_bytes, BatchesStand, after_batches, Reaches, place_behind, IsWhole, HasRoom, Side}
+use Rattle.q4_record.specs.Schema.{schema_bytes, MayHave, IsSchema, DifferFirst, DifferAt, OtherSchema, SchemaFails}
+use Rattle.q4_record.specs.Side.{side_limit, base_at, base_length_of, base_of, format_of, IsOpen, Begins, IsBase, batch_bytes, batches_bytes, BatchesStand, after_batches, Reaches, place_behind, IsWhole, HasRoom, Side}
 use Rattle.q4_record.specs.Faults.{HeaderFails, RecordsFail, BaseFails, EndsInBatch, BatchRecordsFail, BatchFails, BatchesFail, OpenFails, SideFails}
 use Rattle.q4_record.proofs.WideRows.{same_length}
 use Rattle.q4_record.proofs.Schemas.{schema_once}
@@ -51,69 +53,69 @@ differ_once columns others m n d g =
     let len = differ_length d.same g.same d.rest g.rest d.other_rest g.other_rest (sym d.columns_are ∙ g.columns_are) (sym d.others_are ∙ g.others_are) d.differ g.differ in
     d.number_is ∙ ap (λ k. k + 1) len ∙ sym g.number_is
 
-other_not : (columns : List Column) (base section : List ℕ) (n : ℕ) → OtherSchema columns base n → base ≡ schema_bytes columns ++ section → ⊥
-other_not columns base section n o e = differ_not columns o.others n o.differ (schema_once o.others columns o.rest section (sym o.base_is ∙ e)).0
+other_not : (format : Format) (columns : List Column) (base section : List ℕ) (n : ℕ) → OtherSchema format columns base n → base ≡ schema_bytes columns ++ section → ⊥
+other_not format columns base section n o e = differ_not columns o.others n o.differ (schema_once o.others columns o.rest section (sym o.base_is ∙ e)).0
 
 -- where the schema stands it does not fail
-schema_stands : (columns : List Column) (base section : List ℕ) (at : ℕ) (why : SideFault) → IsSchema columns → base ≡ schema_bytes columns ++ section → SchemaFails columns base at why → ⊥
-schema_stands columns base section at fault.Closed is e f = f
-schema_stands columns base section at (fault.Damaged n) is e f = f.1 columns section is e
-schema_stands columns base section at (fault.Schema n) is e f = other_not columns base section n f e
-schema_stands columns base section at (fault.Large n) is e f = f
-schema_stands columns base section at fault.Memory is e f = f
+schema_stands : (format : Format) (columns : List Column) (base section : List ℕ) (at : ℕ) (why : SideFault) → IsSchema columns → All (MayHave format) columns → base ≡ schema_bytes columns ++ section → SchemaFails format columns base at why → ⊥
+schema_stands format columns base section at fault.Closed is may e f = f
+schema_stands format columns base section at (fault.Damaged n) is may e f = f.1 columns section (record { is = is; may = may }) e
+schema_stands format columns base section at (fault.Schema n) is may e f = other_not format columns base section n f e
+schema_stands format columns base section at (fault.Large n) is may e f = f
+schema_stands format columns base section at fault.Memory is may e f = f
 
-schema_fails_once : (columns : List Column) (base : List ℕ) (at : ℕ) (why way : SideFault) → SchemaFails columns base at why → SchemaFails columns base at way → why ≡ way
-schema_fails_once columns base at fault.Closed way f g = absurd f
-schema_fails_once columns base at (fault.Damaged m) fault.Closed f g = absurd g
-schema_fails_once columns base at (fault.Damaged m) (fault.Damaged n) f g = ap fault.Damaged (f.0 ∙ sym g.0)
-schema_fails_once columns base at (fault.Damaged m) (fault.Schema n) f g = absurd (f.1 g.others g.rest g.is g.base_is)
-schema_fails_once columns base at (fault.Damaged m) (fault.Large n) f g = absurd g
-schema_fails_once columns base at (fault.Damaged m) fault.Memory f g = absurd g
-schema_fails_once columns base at (fault.Schema m) fault.Closed f g = absurd g
-schema_fails_once columns base at (fault.Schema m) (fault.Damaged n) f g = absurd (g.1 f.others f.rest f.is f.base_is)
-schema_fails_once columns base at (fault.Schema m) (fault.Schema n) f g =
+schema_fails_once : (format : Format) (columns : List Column) (base : List ℕ) (at : ℕ) (why way : SideFault) → SchemaFails format columns base at why → SchemaFails format columns base at way → why ≡ way
+schema_fails_once format columns base at fault.Closed way f g = absurd f
+schema_fails_once format columns base at (fault.Damaged m) fault.Closed f g = absurd g
+schema_fails_once format columns base at (fault.Damaged m) (fault.Damaged n) f g = ap fault.Damaged (f.0 ∙ sym g.0)
+schema_fails_once format columns base at (fault.Damaged m) (fault.Schema n) f g = absurd (f.1 g.others g.rest g.is g.base_is)
+schema_fails_once format columns base at (fault.Damaged m) (fault.Large n) f g = absurd g
+schema_fails_once format columns base at (fault.Damaged m) fault.Memory f g = absurd g
+schema_fails_once format columns base at (fault.Schema m) fault.Closed f g = absurd g
+schema_fails_once format columns base at (fault.Schema m) (fault.Damaged n) f g = absurd (g.1 f.others f.rest f.is f.base_is)
+schema_fails_once format columns base at (fault.Schema m) (fault.Schema n) f g =
     let same = (schema_once g.others f.others g.rest f.rest (sym g.base_is ∙ f.base_is)).0 in
     ap fault.Schema (differ_once columns f.others m n f.differ (subst (λ cs. DifferAt columns cs n) same g.differ))
-schema_fails_once columns base at (fault.Schema m) (fault.Large n) f g = absurd g
-schema_fails_once columns base at (fault.Schema m) fault.Memory f g = absurd g
-schema_fails_once columns base at (fault.Large m) way f g = absurd f
-schema_fails_once columns base at fault.Memory way f g = absurd f
+schema_fails_once format columns base at (fault.Schema m) (fault.Large n) f g = absurd g
+schema_fails_once format columns base at (fault.Schema m) fault.Memory f g = absurd g
+schema_fails_once format columns base at (fault.Large m) way f g = absurd f
+schema_fails_once format columns base at fault.Memory way f g = absurd f
 
 sections_same : (columns : List Column) (base x y : List ℕ) → base ≡ schema_bytes columns ++ x → base ≡ schema_bytes columns ++ y → x ≡ y
 sections_same columns base x y e f = append_cancel_left (schema_bytes columns) x y (sym e ∙ f)
 
-records_not : (columns : List Column) (base : List ℕ) (records : List Record) (why : SideFault) → AllStand (at_base columns) records → base ≡ schema_bytes columns ++ records_bytes records → RecordsFail columns base why → ⊥
-records_not columns base records why a e f =
+records_not : (format : Format) (columns : List Column) (base : List ℕ) (records : List Record) (why : SideFault) → AllStand (at_base columns) records → base ≡ schema_bytes columns ++ records_bytes records → RecordsFail format columns base why → ⊥
+records_not format columns base records why a e f =
     section_stands (at_base columns) f.section (base_at + length (schema_bytes columns)) records why a (sections_same columns base f.section (records_bytes records) f.base_is e) f.fails
 
 base_records : (columns : List Column) (base : List ℕ) (rs ss : List Record) → AllStand (at_base columns) rs → AllStand (at_base columns) ss → base ≡ schema_bytes columns ++ records_bytes rs → base ≡ schema_bytes columns ++ records_bytes ss → rs ≡ ss
 base_records columns base rs ss a b e f = section_once (at_base columns) rs ss a b (sections_same columns base (records_bytes rs) (records_bytes ss) e f)
 
-pub base_once : (columns : List Column) (base : List ℕ) (one other : TableState) → IsBase columns base one → IsBase columns base other → one ≡ other
-base_once columns base one other b d =
+pub base_once : (format : Format) (columns : List Column) (base : List ℕ) (one other : TableState) → IsBase format columns base one → IsBase format columns base other → one ≡ other
+base_once format columns base one other b d =
     let same = base_records columns base b.records d.records b.stand d.stand b.base_is d.base_is in
     ap (λ (replay : Replay). replay.table) (sym b.replay_is ∙ ap (replays (at_base columns)) same ∙ d.replay_is)
 
 -- where the base stands it does not fail
-base_stands : (columns : List Column) (base : List ℕ) (table : TableState) (why : SideFault) → IsSchema columns → IsBase columns base table → BaseFails columns base why → ⊥
-base_stands columns base table why is b (inl schema) = schema_stands columns base (records_bytes b.records) base_at why is b.base_is schema
-base_stands columns base table why is b (inr (inl records)) = records_not columns base b.records why b.stand b.base_is records
-base_stands columns base table why is b (inr (inr u)) =
+base_stands : (format : Format) (columns : List Column) (base : List ℕ) (table : TableState) (why : SideFault) → IsSchema columns → IsBase format columns base table → BaseFails format columns base why → ⊥
+base_stands format columns base table why is b (inl schema) = schema_stands format columns base (records_bytes b.records) base_at why is b.may b.base_is schema
+base_stands format columns base table why is b (inr (inl records)) = records_not format columns base b.records why b.stand b.base_is records
+base_stands format columns base table why is b (inr (inr u)) =
     let same = base_records columns base b.records u.records b.stand u.stand b.base_is u.base_is in
     u.unfinished (ap (λ (replay : Replay). replay.stage) (ap (replays (at_base columns)) (sym same) ∙ b.replay_is))
 
-base_fails_once : (columns : List Column) (base : List ℕ) (why way : SideFault) → IsSchema columns → BaseFails columns base why → BaseFails columns base way → why ≡ way
-base_fails_once columns base why way is (inl f) (inl g) = schema_fails_once columns base base_at why way f g
-base_fails_once columns base why way is (inl f) (inr (inl g)) = absurd (schema_stands columns base g.section base_at why is g.base_is f)
-base_fails_once columns base why way is (inl f) (inr (inr g)) = absurd (schema_stands columns base (records_bytes g.records) base_at why is g.base_is f)
-base_fails_once columns base why way is (inr (inl f)) (inl g) = absurd (schema_stands columns base f.section base_at way is f.base_is g)
-base_fails_once columns base why way is (inr (inl f)) (inr (inl g)) =
+base_fails_once : (format : Format) (columns : List Column) (base : List ℕ) (why way : SideFault) → IsSchema columns → BaseFails format columns base why → BaseFails format columns base way → why ≡ way
+base_fails_once format columns base why way is (inl f) (inl g) = schema_fails_once format columns base base_at why way f g
+base_fails_once format columns base why way is (inl f) (inr (inl g)) = absurd (schema_stands format columns base g.section base_at why is g.may g.base_is f)
+base_fails_once format columns base why way is (inl f) (inr (inr g)) = absurd (schema_stands format columns base (records_bytes g.records) base_at why is g.may g.base_is f)
+base_fails_once format columns base why way is (inr (inl f)) (inl g) = absurd (schema_stands format columns base f.section base_at way is f.may f.base_is g)
+base_fails_once format columns base why way is (inr (inl f)) (inr (inl g)) =
     section_fails_once (at_base columns) f.section (base_at + length (schema_bytes columns)) why way f.fails
     (subst (λ bs. SectionFails (at_base columns) bs (base_at + length (schema_bytes columns)) way) (sections_same columns base g.section f.section g.base_is f.base_is) g.fails)
-base_fails_once columns base why way is (inr (inl f)) (inr (inr g)) = absurd (records_not columns base g.records why g.stand g.base_is f)
-base_fails_once columns base why way is (inr (inr f)) (inl g) = absurd (schema_stands columns base (records_bytes f.records) base_at way is f.base_is g)
-base_fails_once columns base why way is (inr (inr f)) (inr (inl g)) = absurd (records_not columns base f.records way f.stand f.base_is g)
-base_fails_once columns base why way is (inr (inr f)) (inr (inr g)) = f.why_is ∙ sym g.why_is
+base_fails_once format columns base why way is (inr (inl f)) (inr (inr g)) = absurd (records_not format columns base g.records why g.stand g.base_is f)
+base_fails_once format columns base why way is (inr (inr f)) (inl g) = absurd (schema_stands format columns base (records_bytes f.records) base_at way is f.may f.base_is g)
+base_fails_once format columns base why way is (inr (inr f)) (inr (inl g)) = absurd (records_not format columns base f.records way f.stand f.base_is g)
+base_fails_once format columns base why way is (inr (inr f)) (inr (inr g)) = f.why_is ∙ sym g.why_is
 
 -- ---- batches
 
@@ -256,7 +258,7 @@ few_behind columns bytes bs replay x r =
 point_compare : (columns : List Column) (bytes : List ℕ) (bs cs : List (List Record)) (replay other : Replay) (x y : List ℕ) → Reaches columns bytes bs replay x → Reaches columns bytes cs other y → 1 ≤ length x → 1 ≤ length y
     → SamePoint bs cs replay other x y ⊎ BatchAhead replay x ⊎ BatchAhead other y
 point_compare columns bytes bs cs replay other x y r q left also =
-    let tables = base_once columns (base_of bytes) r.base_table q.base_table r.base q.base in
+    let tables = base_once (format_of bytes) columns (base_of bytes) r.base_table q.base_table r.base q.base in
     let stand = subst (λ (t : TableState). BatchesStand (at_batches t) cs) (sym tables) q.stand in
     let other_is : other ≡ after_batches (at_batches r.base_table) cs = q.replay_is ∙ ap (λ (t : TableState). after_batches (at_batches t) cs) (sym tables) in
     elim (batches_compare (at_batches r.base_table) bs cs x y r.stand stand left also (few_behind columns bytes bs replay x r) (sym r.behind ∙ q.behind)) [
@@ -305,7 +307,7 @@ batches_fail_once columns bytes why way f g =
 -- Bytes that are a side do not fail.
 pub side_not_fails : (columns : List Column) (bytes : List ℕ) (table : TableState) (g n : ℕ) (why : SideFault) → IsSchema columns → Side columns bytes table g n → OpenFails columns bytes why → ⊥
 side_not_fails columns bytes table g n why is s (inl header) = header_begins bytes why s.stands.reaches.begins header
-side_not_fails columns bytes table g n why is s (inr (inl base)) = base_stands columns (base_of bytes) s.stands.reaches.base_table why is s.stands.reaches.base base.1
+side_not_fails columns bytes table g n why is s (inr (inl base)) = base_stands (format_of bytes) columns (base_of bytes) s.stands.reaches.base_table why is s.stands.reaches.base base.1
 side_not_fails columns bytes table g n why is s (inr (inr (inl batches))) = whole_not_fails columns bytes table g n why s.stands batches
 side_not_fails columns bytes table g n why is s (inr (inr (inr room))) =
     let same = whole_once columns bytes table room.table g room.generation n room.len s.stands room.stands in
@@ -318,15 +320,15 @@ open_fails_once columns bytes why way is (inl f) (inr (inl g)) = absurd (header_
 open_fails_once columns bytes why way is (inl f) (inr (inr (inl g))) = absurd (header_begins bytes why g.reaches.begins f)
 open_fails_once columns bytes why way is (inl f) (inr (inr (inr g))) = absurd (header_begins bytes why g.stands.reaches.begins f)
 open_fails_once columns bytes why way is (inr (inl f)) (inl g) = absurd (header_begins bytes way f.0 g)
-open_fails_once columns bytes why way is (inr (inl f)) (inr (inl g)) = base_fails_once columns (base_of bytes) why way is f.1 g.1
-open_fails_once columns bytes why way is (inr (inl f)) (inr (inr (inl g))) = absurd (base_stands columns (base_of bytes) g.reaches.base_table why is g.reaches.base f.1)
-open_fails_once columns bytes why way is (inr (inl f)) (inr (inr (inr g))) = absurd (base_stands columns (base_of bytes) g.stands.reaches.base_table why is g.stands.reaches.base f.1)
+open_fails_once columns bytes why way is (inr (inl f)) (inr (inl g)) = base_fails_once (format_of bytes) columns (base_of bytes) why way is f.1 g.1
+open_fails_once columns bytes why way is (inr (inl f)) (inr (inr (inl g))) = absurd (base_stands (format_of bytes) columns (base_of bytes) g.reaches.base_table why is g.reaches.base f.1)
+open_fails_once columns bytes why way is (inr (inl f)) (inr (inr (inr g))) = absurd (base_stands (format_of bytes) columns (base_of bytes) g.stands.reaches.base_table why is g.stands.reaches.base f.1)
 open_fails_once columns bytes why way is (inr (inr (inl f))) (inl g) = absurd (header_begins bytes way f.reaches.begins g)
-open_fails_once columns bytes why way is (inr (inr (inl f))) (inr (inl g)) = absurd (base_stands columns (base_of bytes) f.reaches.base_table way is f.reaches.base g.1)
+open_fails_once columns bytes why way is (inr (inr (inl f))) (inr (inl g)) = absurd (base_stands (format_of bytes) columns (base_of bytes) f.reaches.base_table way is f.reaches.base g.1)
 open_fails_once columns bytes why way is (inr (inr (inl f))) (inr (inr (inl g))) = batches_fail_once columns bytes why way f g
 open_fails_once columns bytes why way is (inr (inr (inl f))) (inr (inr (inr g))) = absurd (whole_not_fails columns bytes g.table g.generation g.len why g.stands f)
 open_fails_once columns bytes why way is (inr (inr (inr f))) (inl g) = absurd (header_begins bytes way f.stands.reaches.begins g)
-open_fails_once columns bytes why way is (inr (inr (inr f))) (inr (inl g)) = absurd (base_stands columns (base_of bytes) f.stands.reaches.base_table way is f.stands.reaches.base g.1)
+open_fails_once columns bytes why way is (inr (inr (inr f))) (inr (inl g)) = absurd (base_stands (format_of bytes) columns (base_of bytes) f.stands.reaches.base_table way is f.stands.reaches.base g.1)
 open_fails_once columns bytes why way is (inr (inr (inr f))) (inr (inr (inl g))) = absurd (whole_not_fails columns bytes f.table f.generation f.len way f.stands g)
 open_fails_once columns bytes why way is (inr (inr (inr f))) (inr (inr (inr g))) = f.why_is ∙ sym g.why_is
 

@@ -8,6 +8,7 @@ use Rattle.q4_table.specs.TableState.{TableState}
 use Rattle.q4_table.specs.Valid.{SourcesRise}
 use Rattle.q4_record.specs.declared.head.Head.{Head}
 use Rattle.q4_record.specs.declared.head.Head.TheVariants.{Insert, End, Mark, Next}
+use Rattle.q4_record.specs.declared.header.Format.{Format}
 use Rattle.q4_record.specs.declared.replay.Replay.{Replay}
 use Rattle.q4_record.specs.declared.replay.Stage.TheVariants as stage
 use Rattle.q4_record.specs.Wide.{IsWideRow}
@@ -32,10 +33,11 @@ none_behind replay [] whole all = refl
 none_behind replay (r ∷ rs) whole all = absurd (none_may r.head replay.table (subst (λ s. MayCome s replay.table r.head) whole all.0.may))
 
 -- what a record without a row is
-rowless : (replay : Replay) (r : Record) (head : Head) → Stands replay r → r.head ≡ head → row_columns replay.table.columns head ≡ [] → r ≡ record { head = head; row = [] }
+rowless : (replay : Replay) (r : Record) (head : Head) → Stands replay r → r.head ≡ head → row_columns replay.table.columns head ≡ [] → r ≡ record { head = head; columns = []; row = [] }
 rowless replay r head s e none =
     let row_is : r.row ≡ [] = no_columns r.row (subst (λ cs. IsWideRow cs r.row) (ap (row_columns replay.table.columns) e ∙ none) s.is.row) in
-    (λ i. record { head = e i; row = row_is i })
+    let columns_are : r.columns ≡ [] = s.is.columns_are ∙ ap (row_columns replay.table.columns) e ∙ none in
+    (λ i. record { head = e i; columns = columns_are i; row = row_is i })
 
 -- marks from above a source on, and then one next record
 record MarksThenNext (last : ℕ) (rs : List Record) : Type 0 where
@@ -123,8 +125,8 @@ rows_then replay [] at all whole = absurd cc
 rows_then replay (r ∷ rs) at all whole =
     row_step replay r rs r.head refl all.0 (subst (λ s. MayCome s replay.table r.head) at all.0.may) all.1 at (λ next. rows_then (replayed replay r) rs next all.1 whole) (λ source next. marks_then source (replayed replay r) rs next all.1 whole)
 
-pub base_parts : (columns : List Column) (base : List ℕ) (table : TableState) → IsBase columns base table → BaseParts columns base
-base_parts columns base table b =
+pub base_parts : (format : Format) (columns : List Column) (base : List ℕ) (table : TableState) → IsBase format columns base table → BaseParts columns base
+base_parts format columns base table b =
     let p = rows_then (at_base columns) b.records refl b.stand (ap (λ (replay : Replay). replay.stage) b.replay_is) in
     record {
       rows = p.rows;

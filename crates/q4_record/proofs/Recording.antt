@@ -1,10 +1,11 @@
 -- A record at the front of bytes: that it stands, or why none does.
-use Rattle.std.proofs.Common.{◌≡◌, ℕ, ◌≤◌, ◌⊎◌, List, [], ◌++◌, length, inl, inr, refl, sym, ap, subst, ◌∙◌, append_assoc}
+use Rattle.std.proofs.Common.{◌≡◌, ℕ, ◌<◌, ◌≤◌, ◌⊎◌, List, [], ◌++◌, length, inl, inr, refl, sym, ap, subst, ◌∙◌, append_assoc}
 use Rattle.std.proofs.lemmas.List.Elements.{All-nil}
 use Rattle.q4_value.specs.declared.row.Value.{Value}
 use Rattle.q4_value.specs.Spelling.{row_bytes}
 use Rattle.q4_table.specs.TableState.{TableState}
 use Rattle.q4_table.specs.Rows.{without_row}
+use Rattle.q4_table.specs.Adding.{number_limit}
 use Rattle.q4_record.specs.declared.head.Head.{Head}
 use Rattle.q4_record.specs.declared.head.Head.TheVariants.{Insert, End, Mark, Next}
 use Rattle.q4_record.specs.declared.replay.Replay.{Replay}
@@ -16,34 +17,44 @@ use Rattle.q4_record.specs.Replay.{MayCome, table_after, replayed, Stands}
 use Rattle.q4_record.specs.Reading.{Comes, BreaksOff, Passes}
 use Rattle.q4_record.specs.Parts.{IsReady, RowStands, RowPasses, NoRow, RowFails, RecordStood, RecordFailed}
 use Rattle.q4_record.proofs.Heads.{head_once}
-use Rattle.q4_record.proofs.Limits.{ended_within, table_within}
+use Rattle.q4_record.proofs.Limits.{next_passed, ended_within, table_within}
 
 pub end_stands : (old : Replay) (number : ℕ) (bytes : List ℕ) (new : TableState) → IsReady old → new ≡ record old.table { rows = without_row number old.table.rows } → RowStands old (End number) bytes (record { stage = old.stage; table = new }) bytes
 end_stands old number bytes new ready e = record {
   row = [];
   bytes_are = refl;
-  is = record { kinds = refl; values = All-nil IsWideValue };
+  is = record { taken = tt; values = All-nil IsWideValue };
   within = ended_within old.table number ready.within;
   new_is = ap (λ (t : TableState). record { stage = old.stage; table = t }) e;
 }
 
+-- a next record whose number is too great
+pub next_passes : (old : Replay) (number : ℕ) (bytes : List ℕ) (at : ℕ) → IsReady old → number_limit < number → RowFails old (Next number) bytes at (fault.Large 3)
+next_passes old number bytes at ready lt = inl (record {
+  row = [];
+  rest = bytes;
+  bytes_are = refl;
+  is = record { taken = tt; values = All-nil IsWideValue };
+  passed = next_passed old.table number ready.within lt;
+})
+
 pub record_stood : (old : Replay) (head : Head) (bytes after : List ℕ) (new : Replay) (rest : List ℕ) → IsHead head → bytes ≡ head_bytes head ++ after → MayCome old.stage old.table head → RowStands old head after new rest → RecordStood old bytes new rest
 record_stood old head bytes after new rest is e may s = record {
-  r = record { head = head; row = s.row };
-  bytes_are = e ∙ ap (λ bs. head_bytes head ++ bs) s.bytes_are ∙ sym (append_assoc (head_bytes head) (row_bytes s.row) rest);
-  stands = record { is = record { head = is; row = s.is }; may = may; within = s.within };
+  r = record { head = head; columns = row_columns old.table.columns head; row = s.row };
+  bytes_are = e ∙ ap (λ bs. head_bytes head ++ bs) s.bytes_are ∙ sym (append_assoc (head_bytes head) (row_bytes (row_columns old.table.columns head) s.row) rest);
+  stands = record { is = record { head = is; columns_are = refl; row = s.is }; may = may; within = s.within };
   new_is = s.new_is;
 }
 
 -- what is behind a head that is at the front
-behind_head : (head : Head) (bytes after : List ℕ) (r : Record) (rest : List ℕ) → IsHead head → bytes ≡ head_bytes head ++ after → IsHead r.head → bytes ≡ record_bytes r ++ rest → (head ≡ r.head) × (after ≡ row_bytes r.row ++ rest)
+behind_head : (head : Head) (bytes after : List ℕ) (r : Record) (rest : List ℕ) → IsHead head → bytes ≡ head_bytes head ++ after → IsHead r.head → bytes ≡ record_bytes r ++ rest → (head ≡ r.head) × (after ≡ row_bytes r.columns r.row ++ rest)
 behind_head head bytes after r rest is e r_is r_e =
-    head_once head r.head after (row_bytes r.row ++ rest) is r_is (sym e ∙ r_e ∙ append_assoc (head_bytes r.head) (row_bytes r.row) rest)
+    head_once head r.head after (row_bytes r.columns r.row ++ rest) is r_is (sym e ∙ r_e ∙ append_assoc (head_bytes r.head) (row_bytes r.columns r.row) rest)
 
 -- where no head is at the front no record comes
 pub no_head : (old : Replay) (bytes : List ℕ) → ((head : Head) (rest : List ℕ) → IsHead head → bytes ≡ head_bytes head ++ rest → ⊥) → ((r : Record) (rest : List ℕ) → Comes old bytes r rest → ⊥) × (BreaksOff old bytes → ⊥)
 no_head old bytes none = (
-  λ r rest comes. none r.head (row_bytes r.row ++ rest) comes.is.head (comes.bytes_are ∙ append_assoc (head_bytes r.head) (row_bytes r.row) rest),
+  λ r rest comes. none r.head (row_bytes r.columns r.row ++ rest) comes.is.head (comes.bytes_are ∙ append_assoc (head_bytes r.head) (row_bytes r.columns r.row) rest),
   λ b. none b.head b.row b.is b.bytes_are,
 )
 
@@ -58,7 +69,8 @@ no_record : (old : Replay) (head : Head) (bytes after : List ℕ) → IsHead hea
 no_record old head bytes after is e none = (
   λ r rest comes.
       let same = behind_head head bytes after r rest is e comes.is.head comes.bytes_are in
-      none.none r.row rest (subst (λ h. IsWideRow (row_columns old.table.columns h) r.row) (sym same.0) comes.is.row) same.1,
+      let columns : r.columns ≡ row_columns old.table.columns head = comes.is.columns_are ∙ ap (row_columns old.table.columns) (sym same.0) in
+      none.none r.row rest (subst (λ h. IsWideRow (row_columns old.table.columns h) r.row) (sym same.0) comes.is.row) (same.1 ∙ ap (λ cs. row_bytes cs r.row ++ rest) columns),
   λ b.
       let same = head_once head b.head after b.row is b.is (sym e ∙ b.bytes_are) in
       none.not_long (subst (λ h. CutLong (row_columns old.table.columns h) after) (sym same.0) (subst (CutLong (row_columns old.table.columns b.head)) (sym same.1) b.cut)),
@@ -67,11 +79,11 @@ no_record old head bytes after is e none = (
 passing : (old : Replay) (head : Head) (bytes after : List ℕ) (limit : ℕ) → IsHead head → bytes ≡ head_bytes head ++ after → MayCome old.stage old.table head
     → RowPasses old head after limit ⊎ ((limit ≡ 4) × CutLong (row_columns old.table.columns head) after) → Passes old bytes limit ⊎ ((limit ≡ 4) × BreaksOff old bytes)
 passing old head bytes after limit is e may (inl p) = inl (record {
-  r = record { head = head; row = p.row };
+  r = record { head = head; columns = row_columns old.table.columns head; row = p.row };
   rest = p.rest;
   comes = record {
-    bytes_are = e ∙ ap (λ bs. head_bytes head ++ bs) p.bytes_are ∙ sym (append_assoc (head_bytes head) (row_bytes p.row) p.rest);
-    is = record { head = is; row = p.is };
+    bytes_are = e ∙ ap (λ bs. head_bytes head ++ bs) p.bytes_are ∙ sym (append_assoc (head_bytes head) (row_bytes (row_columns old.table.columns head) p.row) p.rest);
+    is = record { head = is; columns_are = refl; row = p.is };
     may = may;
   };
   passed = p.passed;

@@ -1,5 +1,5 @@
 -- Which columns a schema tells, and where they first differ.
-use Rattle.std.proofs.Common.{◌≡◌, ◌≢◌, ℕ, ◌+◌, ◌<◌, ◌≤◌, List, [], ◌∷◌, ◌++◌, Option, None, Some, length, get_or, drop, refl, sym, ap, subst, ◌∙◌, append_assoc, arith}
+use Rattle.std.proofs.Common.{◌≡◌, ◌≢◌, ℕ, ◌+◌, ◌<◌, ◌≤◌, Bool, true, false, List, [], ◌∷◌, ◌++◌, Option, None, Some, length, get_or, drop, refl, sym, ap, subst, ◌∙◌, append_assoc, arith}
 use Rattle.std.specs.List.{All, flat_map, slice_get}
 use Rattle.std.proofs.lemmas.List.{append-nil, length-append, flat_map_more, get_or_at, drop_at, nil_from_length, length_push}
 use Rattle.std.proofs.lemmas.List.Elements.{All-nil, All-head, All-drop, All-push}
@@ -8,22 +8,35 @@ use Rattle.q4_value.specs.declared.column.Column.{Column}
 use Rattle.q4_value.specs.declared.column.Kind.{Kind}
 use Rattle.q4_value.specs.declared.column.Kind.TheVariants as kind
 use Rattle.q4_value.proofs.Rows.{append_same}
-use Rattle.q4_record.specs.Schema.{kind_byte, column_bytes, schema_bytes, IsSchema, DifferFirst, OtherSchema}
+use Rattle.q4_record.specs.declared.header.Format.{Format}
+use Rattle.q4_record.specs.Schema.{kind_number, column_bytes, schema_bytes, MayHave, IsSchemaOf, DifferFirst, OtherSchema}
 use Rattle.q4_record.specs.SideParts.{DiffersNext}
 
-kind_once : (a b : Kind) → kind_byte a ≡ kind_byte b → a ≡ b
-kind_once kind.Int kind.Int e = refl
-kind_once kind.Int kind.Words e = absurd cc
-kind_once kind.Words kind.Int e = absurd cc
-kind_once kind.Words kind.Words e = refl
+kind_once : (p q : Bool) (a b : Kind) → kind_number p a ≡ kind_number q b → (p ≡ q) × (a ≡ b)
+kind_once false false kind.Int kind.Int e = (refl, refl)
+kind_once false false kind.Int kind.Words e = absurd cc
+kind_once false true kind.Int kind.Int e = absurd cc
+kind_once false true kind.Int kind.Words e = absurd cc
+kind_once false false kind.Words kind.Int e = absurd cc
+kind_once false false kind.Words kind.Words e = (refl, refl)
+kind_once false true kind.Words kind.Int e = absurd cc
+kind_once false true kind.Words kind.Words e = absurd cc
+kind_once true false kind.Int kind.Int e = absurd cc
+kind_once true false kind.Int kind.Words e = absurd cc
+kind_once true true kind.Int kind.Int e = (refl, refl)
+kind_once true true kind.Int kind.Words e = absurd cc
+kind_once true false kind.Words kind.Int e = absurd cc
+kind_once true false kind.Words kind.Words e = absurd cc
+kind_once true true kind.Words kind.Int e = absurd cc
+kind_once true true kind.Words kind.Words e = (refl, refl)
 
 -- no two columns stand at the front of the same bytes
 pub column_once : (c d : Column) (x y : List ℕ) → column_bytes c ++ x ≡ column_bytes d ++ y → (c ≡ d) × (x ≡ y)
 column_once c d x y e =
-    let kind_is : c.kind ≡ d.kind = kind_once c.kind d.kind (ap (λ bs. get_or bs 0 0) e) in
+    let sort = kind_once c.optional d.optional c.kind d.kind (ap (λ bs. get_or bs 0 0) e) in
     let len : length c.name ≡ length d.name = ap (λ bs. get_or bs 1 0) e in
     let names = append_same c.name d.name x y len (ap (drop 2) e) in
-    ((λ i. record { name = names.0 i; kind = kind_is i }), names.1)
+    ((λ i. record { name = names.0 i; kind = sort.1 i; optional = sort.0 i }), names.1)
 
 -- what columns have behind others that were told
 record Told (others all : List Column) (rest more : List ℕ) : Type 0 where
@@ -63,15 +76,16 @@ DiffersSoFar columns others None = (behind : List Column) × (columns ≡ others
 DiffersSoFar columns others (Some number) = Differed columns others number
 
 -- the columns that were told so far, and what is left
-pub record SchemaSoFar (columns : List Column) (told : List ℕ) (count : ℕ) (rest : List ℕ) (differs : Option ℕ) : Type 0 where
+pub record SchemaSoFar (format : Format) (columns : List Column) (told : List ℕ) (count : ℕ) (rest : List ℕ) (differs : Option ℕ) : Type 0 where
   pub others : List Column
   pub count_is : length others ≡ count
   pub names : All (λ c. length c.name < 256) others
+  pub may : All (MayHave format) others
   pub told_is : told ≡ flat_map column_bytes others ++ rest
   pub so_far : DiffersSoFar columns others differs
 
-pub none_told : (columns : List Column) (told : List ℕ) → SchemaSoFar columns told 0 told None
-none_told columns told = record { others = []; count_is = refl; names = All-nil (λ c. length c.name < 256); told_is = refl; so_far = (columns, refl) }
+pub none_told : (format : Format) (columns : List Column) (told : List ℕ) → SchemaSoFar format columns told 0 told None
+none_told format columns told = record { others = []; count_is = refl; names = All-nil (λ c. length c.name < 256); may = All-nil (MayHave format); told_is = refl; so_far = (columns, refl) }
 
 first_more : (rest : List Column) (d : Column) (ds es : List Column) → DifferFirst rest (d ∷ ds) → DifferFirst rest (d ∷ es)
 first_more [] d ds es f = tt
@@ -121,51 +135,62 @@ differs_next columns others c None (Some number) d e = record {
   number_is = e.1;
 }
 
-pub one_more_told : (columns : List Column) (told : List ℕ) (count : ℕ) (rest : List ℕ) (differs : Option ℕ) (c : Column) (after : List ℕ) (next : Option ℕ) → SchemaSoFar columns told count rest differs
-    → length c.name < 256 → rest ≡ column_bytes c ++ after → DiffersNext differs (slice_get columns count) c count next → SchemaSoFar columns told (count + 1) after next
-one_more_told columns told count rest differs c after next so name e d = record {
+pub one_more_told : (format : Format) (columns : List Column) (told : List ℕ) (count : ℕ) (rest : List ℕ) (differs : Option ℕ) (c : Column) (after : List ℕ) (next : Option ℕ) → SchemaSoFar format columns told count rest differs
+    → length c.name < 256 → MayHave format c → rest ≡ column_bytes c ++ after → DiffersNext differs (slice_get columns count) c count next → SchemaSoFar format columns told (count + 1) after next
+one_more_told format columns told count rest differs c after next so name may e d = record {
   others = so.others ++ c ∷ [];
   count_is = length_push so.others c ∙ ap (λ n. n + 1) so.count_is;
   names = All-push (λ c. length c.name < 256) so.others c so.names name;
+  may = All-push (MayHave format) so.others c so.may may;
   told_is = so.told_is ∙ ap (λ bs. flat_map column_bytes so.others ++ bs) e ∙ sym (append_assoc (flat_map column_bytes so.others) (column_bytes c) after) ∙ ap (λ bs. bs ++ after) (flat_map_more column_bytes [] so.others c);
   so_far = differs_next columns so.others c differs next so.so_far (subst (λ n. DiffersNext differs (slice_get columns n) c n next) (sym so.count_is) d);
 }
 
-first_none : (all front behind : List Column) (rest more : List ℕ) → 0 < length behind → all ≡ front ++ behind → rest ≡ flat_map column_bytes behind ++ more → IsSchema all → ((c : Column) (more : List ℕ) → length c.name < 256 → rest ≡ column_bytes c ++ more → ⊥) → ⊥
-first_none all front [] rest more lt all_are e is none = omega arith
-first_none all front (c ∷ cs) rest more lt all_are e is none =
+first_none : (format : Format) (all front behind : List Column) (rest more : List ℕ) → 0 < length behind → all ≡ front ++ behind → rest ≡ flat_map column_bytes behind ++ more → IsSchemaOf format all
+    → ((c : Column) (more : List ℕ) → length c.name < 256 → MayHave format c → rest ≡ column_bytes c ++ more → ⊥) → ⊥
+first_none format all front [] rest more lt all_are e is none = omega arith
+first_none format all front (c ∷ cs) rest more lt all_are e is none =
     let short : Column → Type 0 = λ c. length c.name < 256 in
-    let names : All short (c ∷ cs) = subst (All short) (ap (drop (length front)) all_are ∙ drop_at front (c ∷ cs) (length front) refl) (All-drop short (length front) all is.names) in
-    none c (flat_map column_bytes cs ++ more) (All-head short c cs names) (e ∙ append_assoc (column_bytes c) (flat_map column_bytes cs) more)
+    let behind : drop (length front) all ≡ c ∷ cs = ap (drop (length front)) all_are ∙ drop_at front (c ∷ cs) (length front) refl in
+    let names : All short (c ∷ cs) = subst (All short) behind (All-drop short (length front) all is.is.names) in
+    let may : All (MayHave format) (c ∷ cs) = subst (All (MayHave format)) behind (All-drop (MayHave format) (length front) all is.may) in
+    none c (flat_map column_bytes cs ++ more) (All-head short c cs names) (All-head (MayHave format) c cs may) (e ∙ append_assoc (column_bytes c) (flat_map column_bytes cs) more)
 
 -- where no column can be read no schema of so many columns is at the front
-pub no_schema : (columns : List Column) (told : List ℕ) (count place : ℕ) (rest : List ℕ) (differs : Option ℕ) → SchemaSoFar columns told place rest differs → place < count
-    → ((c : Column) (more : List ℕ) → length c.name < 256 → rest ≡ column_bytes c ++ more → ⊥) → (others : List Column) (more : List ℕ) → IsSchema others → 7 ∷ count ∷ told ≡ schema_bytes others ++ more → ⊥
-no_schema columns told count place rest differs so lt none others more is e =
+pub no_schema : (format : Format) (columns : List Column) (told : List ℕ) (count place : ℕ) (rest : List ℕ) (differs : Option ℕ) → SchemaSoFar format columns told place rest differs → place < count
+    → ((c : Column) (more : List ℕ) → length c.name < 256 → MayHave format c → rest ≡ column_bytes c ++ more → ⊥) → (others : List Column) (more : List ℕ) → IsSchemaOf format others → 7 ∷ count ∷ told ≡ schema_bytes others ++ more → ⊥
+no_schema format columns told count place rest differs so lt none others more is e =
     let len : count ≡ length others = ap (λ bs. get_or bs 1 0) e in
     let t = told_on so.others others rest more (omega (arith, so.count_is)) (sym so.told_is ∙ ap (drop 2) e) in
-    first_none others so.others t.behind rest more (omega (arith, ap length t.all_are, length-append so.others t.behind, so.count_is)) t.all_are t.rest_is is none
+    first_none format others so.others t.behind rest more (omega (arith, ap length t.all_are, length-append so.others t.behind, so.count_is)) t.all_are t.rest_is is none
 
 -- all columns were told, and none differs
-pub same_schema : (columns : List Column) (told : List ℕ) (count : ℕ) (rest : List ℕ) → SchemaSoFar columns told count rest None → length columns ≤ count → 7 ∷ count ∷ told ≡ schema_bytes columns ++ rest
-same_schema columns told count rest so few =
+all_told : (format : Format) (columns : List Column) (told : List ℕ) (count : ℕ) (rest : List ℕ) → (so : SchemaSoFar format columns told count rest None) → length columns ≤ count → columns ≡ so.others
+all_told format columns told count rest so few =
     let behind = so.so_far.0 in
     let none : behind ≡ [] = nil_from_length behind (omega (arith, ap length so.so_far.1, length-append so.others behind, so.count_is)) in
-    let same : columns ≡ so.others = so.so_far.1 ∙ ap (λ cs. so.others ++ cs) none ∙ append-nil so.others in
-    ap (λ n. 7 ∷ n ∷ told) (sym so.count_is) ∙ ap (λ bs. 7 ∷ length so.others ∷ bs) so.told_is ∙ ap (λ cs. schema_bytes cs ++ rest) (sym same)
+    so.so_far.1 ∙ ap (λ cs. so.others ++ cs) none ∙ append-nil so.others
 
-told_schema : (columns : List Column) (told : List ℕ) (count : ℕ) (rest : List ℕ) (differs : Option ℕ) → (so : SchemaSoFar columns told count rest differs) → 7 ∷ count ∷ told ≡ schema_bytes so.others ++ rest
-told_schema columns told count rest differs so = ap (λ n. 7 ∷ n ∷ told) (sym so.count_is) ∙ ap (λ bs. 7 ∷ length so.others ∷ bs) so.told_is
+pub same_schema : (format : Format) (columns : List Column) (told : List ℕ) (count : ℕ) (rest : List ℕ) → SchemaSoFar format columns told count rest None → length columns ≤ count → 7 ∷ count ∷ told ≡ schema_bytes columns ++ rest
+same_schema format columns told count rest so few =
+    ap (λ n. 7 ∷ n ∷ told) (sym so.count_is) ∙ ap (λ bs. 7 ∷ length so.others ∷ bs) so.told_is ∙ ap (λ cs. schema_bytes cs ++ rest) (sym (all_told format columns told count rest so few))
+
+-- the format has them
+pub same_may : (format : Format) (columns : List Column) (told : List ℕ) (count : ℕ) (rest : List ℕ) → SchemaSoFar format columns told count rest None → length columns ≤ count → All (MayHave format) columns
+same_may format columns told count rest so few = subst (All (MayHave format)) (sym (all_told format columns told count rest so few)) so.may
+
+told_schema : (format : Format) (columns : List Column) (told : List ℕ) (count : ℕ) (rest : List ℕ) (differs : Option ℕ) → (so : SchemaSoFar format columns told count rest differs) → 7 ∷ count ∷ told ≡ schema_bytes so.others ++ rest
+told_schema format columns told count rest differs so = ap (λ n. 7 ∷ n ∷ told) (sym so.count_is) ∙ ap (λ bs. 7 ∷ length so.others ∷ bs) so.told_is
 
 -- a column differs that was told
-pub other_schema : (columns : List Column) (told : List ℕ) (count : ℕ) (rest : List ℕ) (number : ℕ) → SchemaSoFar columns told count rest (Some number) → count < 256 → OtherSchema columns (7 ∷ count ∷ told) number
-other_schema columns told count rest number so few =
+pub other_schema : (format : Format) (columns : List Column) (told : List ℕ) (count : ℕ) (rest : List ℕ) (number : ℕ) → SchemaSoFar format columns told count rest (Some number) → count < 256 → OtherSchema format columns (7 ∷ count ∷ told) number
+other_schema format columns told count rest number so few =
     let d = so.so_far in
     record {
       others = so.others;
       rest = rest;
-      is = record { few = subst (λ n. n < 256) (sym so.count_is) few; names = so.names };
-      base_is = told_schema columns told count rest (Some number) so;
+      is = record { is = record { few = subst (λ n. n < 256) (sym so.count_is) few; names = so.names }; may = so.may };
+      base_is = told_schema format columns told count rest (Some number) so;
       differ = record { same = d.same; rest = d.rest; other_rest = d.told ∷ d.others_rest; columns_are = d.columns_are; others_are = d.others_are; differ = d.differ; number_is = d.number_is };
     }
 
@@ -174,12 +199,12 @@ some_left [] lt = omega arith
 some_left (c ∷ cs) lt = tt
 
 -- fewer columns were told than there are
-pub less_schema : (columns : List Column) (told : List ℕ) (count : ℕ) (rest : List ℕ) → SchemaSoFar columns told count rest None → count < 256 → count < length columns → OtherSchema columns (7 ∷ count ∷ told) (count + 1)
-less_schema columns told count rest so few lt = record {
+pub less_schema : (format : Format) (columns : List Column) (told : List ℕ) (count : ℕ) (rest : List ℕ) → SchemaSoFar format columns told count rest None → count < 256 → count < length columns → OtherSchema format columns (7 ∷ count ∷ told) (count + 1)
+less_schema format columns told count rest so few lt = record {
   others = so.others;
   rest = rest;
-  is = record { few = subst (λ n. n < 256) (sym so.count_is) few; names = so.names };
-  base_is = told_schema columns told count rest None so;
+  is = record { is = record { few = subst (λ n. n < 256) (sym so.count_is) few; names = so.names }; may = so.may };
+  base_is = told_schema format columns told count rest None so;
   differ = record {
     same = so.others;
     rest = so.so_far.0;

@@ -37,10 +37,10 @@ plain r = record { number = r.number; row = r.row; owner = None }
 
 -- the rows stand behind others, and lead to a table with all of them
 pub record RowsStand (columns : List Column) (next limit : ℕ) (front rows : List StoredRow) : Type 0 where
-  pub stand : AllStand (record { stage = stage.Rows; table = table_of columns next front [] }) (map row_record rows)
+  pub stand : AllStand (record { stage = stage.Rows; table = table_of columns next front [] }) (map (row_record columns) rows)
   pub after : ℕ
   pub after_le : after ≤ limit
-  pub replay_is : replays (record { stage = stage.Rows; table = table_of columns next front [] }) (map row_record rows) ≡ record { stage = stage.Rows; table = table_of columns after (front ++ map plain rows) [] }
+  pub replay_is : replays (record { stage = stage.Rows; table = table_of columns next front [] }) (map (row_record columns) rows) ≡ record { stage = stage.Rows; table = table_of columns after (front ++ map plain rows) [] }
 
 row_within : (columns : List Column) (front rows : List StoredRow) (r : StoredRow) → Fits columns r.row → r.number + 1 ≤ number_limit → length (front ++ r ∷ rows) ≤ count_limit → bytes_of (front ++ r ∷ rows) ≤ bytes_limit
     → Within (table_of columns (r.number + 1) (front ++ plain r ∷ []) []) r.row
@@ -61,8 +61,8 @@ rows_stand columns next limit low front (r ∷ rs) fits rise from le top count b
     let size : StoredRow → ℕ = λ q. row_size q.row in
     let fit = All-head (λ (q : StoredRow). Fits columns q.row) r rs fits in
     let number : r.number + 1 ≤ number_limit = omega (arith, rise.1, top) in
-    let one : Stands (record { stage = stage.Rows; table = table_of columns next front [] }) (row_record r) = record {
-      is = record { head = (omega (arith, number), tt); row = wide_row columns r.row fit.row_of };
+    let one : Stands (record { stage = stage.Rows; table = table_of columns next front [] }) (row_record columns r) = record {
+      is = record { head = (omega (arith, number), tt); columns_are = refl; row = wide_row columns r.row fit.row_of };
       may = omega (arith, rise.0, from);
       within = passes_none (table_of columns (r.number + 1) (front ++ plain r ∷ []) []) r.row (row_within columns front rs r fit number count bytes);
     } in
@@ -145,7 +145,7 @@ marks_stand columns next rows s front [] within are rise before below =
 marks_stand columns next rows s front (m ∷ ms) within are rise before below =
     let is = All-head IsMark m ms are in
     let one : Stands (record { stage = s; table = table_of columns next rows front }) (mark_record m) = record {
-      is = record { head = omega (arith, is.number); row = record { kinds = refl; values = All-nil IsWideValue } };
+      is = record { head = omega (arith, is.number); columns_are = refl; row = record { taken = tt; values = All-nil IsWideValue } };
       may = may_mark s m ms before is;
       within = within;
     } in
@@ -175,14 +175,14 @@ pub base_written : (table : TableState) → IsValidTable table → All (λ r. r.
 base_written table valid unowned =
     let columns = table.columns in
     let rows = rows_stand columns 1 table.next 0 [] table.rows valid.fit valid.numbers (omega arith) valid.begins valid.limit valid.count valid.bytes in
-    let rows_are : replays (at_base columns) (map row_record table.rows) ≡ record { stage = stage.Rows; table = table_of columns rows.after table.rows [] } =
+    let rows_are : replays (at_base columns) (map (row_record columns) table.rows) ≡ record { stage = stage.Rows; table = table_of columns rows.after table.rows [] } =
     rows.replay_is ∙ ap (λ rs. record { stage = stage.Rows; table = table_of columns rows.after rs [] }) (plain_same table.rows unowned) in
     let after_le = rows.after_le in
     let limit = valid.limit in
     let ms = marks_stand columns rows.after table.rows stage.Rows [] table.marks (table_within table rows.after valid (omega (arith, after_le, limit)) []) valid.marks.each valid.marks.rise tt (none_below table.marks) in
     let end : AllStand (record { stage = ms.last; table = table_of columns rows.after table.rows table.marks }) (next_record table.next ∷ []) = (
       record {
-        is = record { head = omega (arith, limit); row = record { kinds = refl; values = All-nil IsWideValue } };
+        is = record { head = omega (arith, limit); columns_are = refl; row = record { taken = tt; values = All-nil IsWideValue } };
         may = may_next ms.last (table_of columns rows.after table.rows table.marks) table.next ms.may_end after_le;
         within = table_within table table.next valid limit table.marks;
       },
@@ -191,8 +191,8 @@ base_written table valid unowned =
     let marks_end : AllStand (record { stage = stage.Rows; table = table_of columns rows.after table.rows [] }) (map mark_record table.marks ++ next_record table.next ∷ []) =
     stand_append (record { stage = stage.Rows; table = table_of columns rows.after table.rows [] }) (map mark_record table.marks) (next_record table.next ∷ []) ms.stand (subst (λ q. AllStand q (next_record table.next ∷ [])) (sym ms.replay_is) end) in
     record {
-      stand = stand_append (at_base columns) (map row_record table.rows) (map mark_record table.marks ++ next_record table.next ∷ []) rows.stand (subst (λ q. AllStand q (map mark_record table.marks ++ next_record table.next ∷ [])) (sym rows_are) marks_end);
-      replay_is = fold-append replayed (at_base columns) (map row_record table.rows) (map mark_record table.marks ++ next_record table.next ∷ [])
+      stand = stand_append (at_base columns) (map (row_record columns) table.rows) (map mark_record table.marks ++ next_record table.next ∷ []) rows.stand (subst (λ q. AllStand q (map mark_record table.marks ++ next_record table.next ∷ [])) (sym rows_are) marks_end);
+      replay_is = fold-append replayed (at_base columns) (map (row_record columns) table.rows) (map mark_record table.marks ++ next_record table.next ∷ [])
           ∙ ap (λ q. replays q (map mark_record table.marks ++ next_record table.next ∷ [])) rows_are
           ∙ fold-append replayed (record { stage = stage.Rows; table = table_of columns rows.after table.rows [] }) (map mark_record table.marks) (next_record table.next ∷ [])
           ∙ ap (λ q. replays q (next_record table.next ∷ [])) ms.replay_is;

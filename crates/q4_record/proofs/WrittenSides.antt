@@ -1,14 +1,23 @@
 -- What is written of a table is a side that stands for it.
-use Rattle.std.proofs.Common.{◌≡◌, ◌≢◌, ℕ, ◌+◌, ◌^◌, ◌<◌, ◌≤◌, List, ◌∷◌, ◌++◌, length, take, drop, refl, sym, ap, subst, ◌∙◌, arith}
+use Rattle.std.proofs.Common.{◌≡◌, ◌≢◌, ℕ, ◌+◌, ◌^◌, ◌<◌, ◌≤◌, List, ◌∷◌, ◌++◌, length, take, drop, [], inr, refl, sym, ap, subst, ◌∙◌, arith}
+use Rattle.std.specs.List.{All}
 use Rattle.std.proofs.lemmas.List.{take_at, drop_at, drop-drop, length-append}
+use Rattle.std.proofs.lemmas.List.Elements.{All-nil, All-cons}
 use Rattle.std.proofs.lemmas.Nat.{from_be_bytes-to_be_bytes_8}
 use Rattle.q4_value.specs.declared.column.Column.{Column}
 use Rattle.q4_table.specs.TableState.{TableState}
+use Rattle.q4_record.specs.declared.header.Format.TheVariants.{Second}
 use Rattle.q4_record.specs.Record.{Record}
+use Rattle.q4_record.specs.Schema.{MayHave}
 use Rattle.q4_record.specs.Replay.{at_batches}
 use Rattle.q4_record.specs.Side.{side_limit, generation_limit, base_at, told_at, generation_of, base_length_of, base_of, behind_base, batches_bytes, BatchesStand, after_batches, HasRoom, IsBase, Side}
 use Rattle.q4_record.specs.Written.{side_bytes, base_bytes, base_records, written, written_table, written_length, IsWritten}
 use Rattle.q4_record.proofs.WrittenBases.{base_written}
+
+-- the second format has all columns
+pub all_may : (columns : List Column) → All (MayHave Second) columns
+all_may [] = All-nil (MayHave Second)
+all_may (c ∷ cs) = All-cons (MayHave Second) c cs tt (all_may cs)
 
 generation_told : (generation : ℕ) (base behind : List ℕ) → generation < 2 ^ 64 → generation_of (side_bytes generation base behind) ≡ generation
 unfolding told_at
@@ -29,7 +38,7 @@ side_length : (generation : ℕ) (base behind : List ℕ) → length (side_bytes
 side_length generation base behind = omega (arith, length-append base behind)
 
 -- whatever base leads to the table, with batches behind it
-pub base_side : (columns : List Column) (base : List ℕ) (table : TableState) (generation : ℕ) (batches : List (List Record)) (closing : ℕ) (ignored : List ℕ) → IsBase columns base table → 1 ≤ generation → generation ≤ generation_limit → BatchesStand (at_batches table) batches → closing ≢ 1
+pub base_side : (columns : List Column) (base : List ℕ) (table : TableState) (generation : ℕ) (batches : List (List Record)) (closing : ℕ) (ignored : List ℕ) → IsBase Second columns base table → 1 ≤ generation → generation ≤ generation_limit → BatchesStand (at_batches table) batches → closing ≢ 1
     → length (side_bytes generation base (batches_bytes batches ++ closing ∷ ignored)) ≤ side_limit → HasRoom (written_table table batches) (base_at + length base + length (batches_bytes batches) + 1)
     → Side columns (side_bytes generation base (batches_bytes batches ++ closing ∷ ignored)) (written_table table batches) generation (base_at + length base + length (batches_bytes batches) + 1)
 base_side columns base table generation batches closing ignored leads positive limit stand closed few room =
@@ -50,11 +59,11 @@ base_side columns base table generation batches closing ignored leads positive l
           begins = record {
             is_open = record { header = omega (arith, long); gate = refl };
             few = few;
-            header = record { magic = refl; positive = subst (λ n. 1 ≤ n) (sym told) positive; within = omega (arith, len, long, rest) };
+            header = record { magic = inr refl; positive = subst (λ n. 1 ≤ n) (sym told) positive; within = omega (arith, len, long, rest) };
             generation = subst (λ n. n ≤ generation_limit) (sym told) limit;
           };
           base_table = table;
-          base = record { records = leads.records; base_is = base_told generation base behind fits ∙ leads.base_is; stand = leads.stand; replay_is = leads.replay_is };
+          base = record { may = leads.may; records = leads.records; base_is = base_told generation base behind fits ∙ leads.base_is; stand = leads.stand; replay_is = leads.replay_is };
           behind = behind_told generation base behind fits;
           stand = stand;
           replay_is = refl;
@@ -71,4 +80,4 @@ pub written_side : (table : TableState) (generation : ℕ) (batches : List (List
     → Side table.columns (written table generation batches closing ignored) (written_table table batches) generation (written_length table batches)
 written_side table generation batches closing ignored w =
     let stands = base_written table w.valid w.unowned in
-    base_side table.columns (base_bytes table) table generation batches closing ignored (record { records = base_records table; base_is = refl; stand = stands.stand; replay_is = stands.replay_is }) w.positive w.limit w.stand w.closed w.few w.room
+    base_side table.columns (base_bytes table) table generation batches closing ignored (record { may = all_may table.columns; records = base_records table; base_is = refl; stand = stands.stand; replay_is = stands.replay_is }) w.positive w.limit w.stand w.closed w.few w.room

@@ -1,9 +1,10 @@
 -- Why bytes are no side: the first part from the front that does not stand.
-use Rattle.std.specs.Prelude.{◌≡◌, ◌≢◌, ◌<◌, ◌≤◌, ◌+◌, ◌⊎◌, ℕ, List, [], ◌∷◌, ◌++◌, length}
+use Rattle.std.specs.Prelude.{◌≡◌, ◌≢◌, ◌<◌, ◌≤◌, ◌+◌, ◌⊎◌, ℕ, List, [], ◌∷◌, ◌++◌, length, All}
 use Rattle.std.specs.Int.{w32, to_be_bytes}
 use Rattle.q4_value.specs.declared.column.Column.{Column}
 use Rattle.q4_value.specs.Reading.{told_length}
 use Rattle.q4_table.specs.TableState.{TableState}
+use Rattle.q4_record.specs.declared.header.Format.{Format}
 use Rattle.q4_record.specs.declared.replay.Replay.{Replay}
 use Rattle.q4_record.specs.declared.replay.Stage.TheVariants as stage
 use Rattle.q4_record.specs.declared.side.SideFault.{SideFault}
@@ -11,8 +12,8 @@ use Rattle.q4_record.specs.declared.side.SideFault.TheVariants as fault
 use Rattle.q4_record.specs.Record.{Record, records_bytes}
 use Rattle.q4_record.specs.Replay.{replays, at_base, AllStand}
 use Rattle.q4_record.specs.Reading.{SectionFails}
-use Rattle.q4_record.specs.Schema.{schema_bytes, SchemaFails}
-use Rattle.q4_record.specs.Side.{side_limit, generation_limit, base_at, base_of, generation_of, IsOpen, HasHeader, Begins, Reaches, IsWhole, place_behind, HasRoom}
+use Rattle.q4_record.specs.Schema.{schema_bytes, MayHave, SchemaFails}
+use Rattle.q4_record.specs.Side.{side_limit, generation_limit, base_at, base_of, generation_of, format_of, IsOpen, HasHeader, Begins, Reaches, IsWhole, place_behind, HasRoom}
 
 -- Why the header does not stand, at an open gate. Too many bytes go before damage, and damage before too great a
 -- generation.
@@ -26,13 +27,15 @@ HeaderFails bytes (fault.Large limit) =
 HeaderFails bytes fault.Memory = ⊥
 
 -- The schema stands, and one of the records behind it does not.
-pub record RecordsFail (columns : List Column) (base : List ℕ) (why : SideFault) : Type 0 where
+pub record RecordsFail (format : Format) (columns : List Column) (base : List ℕ) (why : SideFault) : Type 0 where
+  pub may : All (MayHave format) columns
   pub section : List ℕ
   pub base_is : base ≡ schema_bytes columns ++ section
   pub fails : SectionFails (at_base columns) section (base_at + length (schema_bytes columns)) why
 
 -- The schema and all records stand, and the last is no next record.
-pub record Unfinished (columns : List Column) (base : List ℕ) (why : SideFault) : Type 0 where
+pub record Unfinished (format : Format) (columns : List Column) (base : List ℕ) (why : SideFault) : Type 0 where
+  pub may : All (MayHave format) columns
   pub records : List Record
   pub base_is : base ≡ schema_bytes columns ++ records_bytes records
   pub stand : AllStand (at_base columns) records
@@ -40,9 +43,11 @@ pub record Unfinished (columns : List Column) (base : List ℕ) (why : SideFault
   pub why_is : why ≡ fault.Damaged (base_at + length base)
 
 -- Why the base does not stand.
-abbrev pub BaseFails : List Column → List ℕ → SideFault → Type 0
-BaseFails columns base why =
-    SchemaFails columns base base_at why ⊎ RecordsFail columns base why ⊎ Unfinished columns base why
+abbrev pub BaseFails : Format → List Column → List ℕ → SideFault → Type 0
+BaseFails format columns base why =
+    SchemaFails format columns base base_at why
+    ⊎ RecordsFail format columns base why
+    ⊎ Unfinished format columns base why
 
 -- behind a batch's gate: the bytes end within the length or the records, or leave no closing gate
 abbrev pub EndsInBatch : List ℕ → Type 0
@@ -83,7 +88,7 @@ pub record LacksRoom (columns : List Column) (bytes : List ℕ) (why : SideFault
 abbrev pub OpenFails : List Column → List ℕ → SideFault → Type 0
 OpenFails columns bytes why =
     HeaderFails bytes why
-    ⊎ (Begins bytes × BaseFails columns (base_of bytes) why)
+    ⊎ (Begins bytes × BaseFails (format_of bytes) columns (base_of bytes) why)
     ⊎ BatchesFail columns bytes why
     ⊎ LacksRoom columns bytes why
 

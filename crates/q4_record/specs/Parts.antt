@@ -19,23 +19,23 @@ pub record IsReady (replay : Replay) : Type 0 where
 -- Behind the head stands a row with which no limit is passed, and the record was replayed.
 pub record RowStands (old : Replay) (head : Head) (bytes : List ℕ) (new : Replay) (rest : List ℕ) : Type 0 where
   pub row : List Value
-  pub bytes_are : bytes ≡ row_bytes row ++ rest
+  pub bytes_are : bytes ≡ row_bytes (row_columns old.table.columns head) row ++ rest
   pub is : IsWideRow (row_columns old.table.columns head) row
   pub within : passed_limit (table_after old.table head row) row ≡ None
-  pub new_is : new ≡ replayed old (record { head = head; row = row })
+  pub new_is : new ≡ replayed old (record { head = head; columns = row_columns old.table.columns head; row = row })
 
 -- Behind the head stands a row with which this limit is passed.
 pub record RowPasses (old : Replay) (head : Head) (bytes : List ℕ) (limit : ℕ) : Type 0 where
   pub row : List Value
   pub rest : List ℕ
-  pub bytes_are : bytes ≡ row_bytes row ++ rest
+  pub bytes_are : bytes ≡ row_bytes (row_columns old.table.columns head) row ++ rest
   pub is : IsWideRow (row_columns old.table.columns head) row
   pub passed : passed_limit (table_after old.table head row) row ≡ Some limit
 
 -- Neither a whole row stands behind the head nor one that is cut off behind too long a text.
 pub record NoRow (old : Replay) (head : Head) (bytes : List ℕ) : Type 0 where
   pub none : (row : List Value) (rest : List ℕ) → IsWideRow (row_columns old.table.columns head) row
-      → bytes ≡ row_bytes row ++ rest → ⊥
+      → bytes ≡ row_bytes (row_columns old.table.columns head) row ++ rest → ⊥
   pub not_long : CutLong (row_columns old.table.columns head) bytes → ⊥
 
 -- Why the record of this head, which may come, does not stand.

@@ -1,5 +1,5 @@
 -- What the records of a side are, and the one spelling of each. Numbers are spelled with the highest byte first.
-use Rattle.std.specs.Prelude.{◌<◌, ◌^◌, ℕ, List, [], ◌∷◌, ◌++◌, Option, None, Some}
+use Rattle.std.specs.Prelude.{◌≡◌, ◌<◌, ◌^◌, ℕ, List, [], ◌∷◌, ◌++◌, Option, None, Some}
 use Rattle.std.specs.Int.{w64, to_be_bytes}
 use Rattle.std.specs.List.{flat_map}
 use Rattle.q4_value.specs.declared.column.Column.{Column}
@@ -12,9 +12,10 @@ use Rattle.q4_record.specs.declared.head.Head.{Head}
 use Rattle.q4_record.specs.declared.head.Head.TheVariants.{Insert, End, Mark, Next}
 use Rattle.q4_record.specs.Wide.{IsWideRow}
 
--- a record: what it tells first, and behind that of an insert the row
+-- a record: what it tells first, and behind that of an insert the row, with the columns that the row is spelled by
 pub record Record : Type 0 where
   pub head : Head
+  pub columns : List Column
   pub row : List Value
 
 abbrev pub mode_byte : Mode → ℕ
@@ -32,7 +33,7 @@ head_bytes (Mark source number) = 5 ∷ source ∷ to_be_bytes w64 number
 head_bytes (Next number) = 6 ∷ to_be_bytes w64 number
 
 abbrev pub record_bytes : Record → List ℕ
-record_bytes r = head_bytes r.head ++ row_bytes r.row
+record_bytes r = head_bytes r.head ++ row_bytes r.columns r.row
 
 abbrev pub records_bytes : List Record → List ℕ
 records_bytes records = flat_map record_bytes records
@@ -59,4 +60,5 @@ row_columns columns (Next number) = []
 -- A record that can be spelled. Its texts are of any length that can be told.
 pub record IsRecord (columns : List Column) (r : Record) : Type 0 where
   pub head : IsHead r.head
+  pub columns_are : r.columns ≡ row_columns columns r.head
   pub row : IsWideRow (row_columns columns r.head) r.row

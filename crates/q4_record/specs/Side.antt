@@ -1,14 +1,16 @@
 -- What a side is: the parts that it has, and the table that they stand for.
-use Rattle.std.specs.Prelude.{◌≡◌, ◌≢◌, ◌≤◌, ◌+◌, ◌*◌, ◌^◌, ℕ, List, [], ◌∷◌, ◌++◌, length, take, drop, fold, codes, slice_index}
+use Rattle.std.specs.Prelude.{◌≡◌, ◌≢◌, ◌≤◌, ◌+◌, ◌*◌, ◌^◌, ◌==◌, ◌⊎◌, ℕ, List, [], ◌∷◌, ◌++◌, length, take, drop, fold, codes, slice_index, if◌then◌else◌, All}
 use Rattle.std.specs.Int.{w32, w64, to_be_bytes, from_be_bytes}
 use Rattle.std.specs.List.{flat_map}
 use Rattle.q4_value.specs.declared.column.Column.{Column}
 use Rattle.q4_table.specs.TableState.{TableState}
+use Rattle.q4_record.specs.declared.header.Format.{Format}
+use Rattle.q4_record.specs.declared.header.Format.TheVariants.{First, Second}
 use Rattle.q4_record.specs.declared.replay.Replay.{Replay}
 use Rattle.q4_record.specs.declared.replay.Stage.TheVariants as stage
 use Rattle.q4_record.specs.Record.{Record, records_bytes}
 use Rattle.q4_record.specs.Replay.{replays, at_base, at_batches, AllStand}
-use Rattle.q4_record.specs.Schema.{schema_bytes}
+use Rattle.q4_record.specs.Schema.{schema_bytes, MayHave}
 
 -- the most bytes of a side
 abbrev pub side_limit : ℕ
@@ -24,6 +26,14 @@ gate_of bytes = slice_index bytes 0
 
 abbrev pub magic_of : List ℕ → List ℕ
 magic_of bytes = take 4 (drop 1 bytes)
+
+-- one of the two magics
+abbrev pub HasMagic : List ℕ → Type 0
+HasMagic bytes = (magic_of bytes ≡ codes "Q4O1") ⊎ (magic_of bytes ≡ codes "Q4O2")
+
+-- the format that the magic tells by its last byte, which is `1` (49) in the first format
+abbrev pub format_of : List ℕ → Format
+format_of bytes = if slice_index bytes 4 == 49 then First else Second
 
 -- the number of 8 bytes that is told at a place
 unfoldable pub told_at : ℕ → List ℕ → ℕ
@@ -51,9 +61,9 @@ pub record IsOpen (bytes : List ℕ) : Type 0 where
   pub header : base_at ≤ length bytes
   pub gate : gate_of bytes ≡ 1
 
--- The magic is right, the generation is positive, and base and closing gate are within the bytes.
+-- The magic is one of the two, the generation is positive, and base and closing gate are within the bytes.
 pub record HasHeader (bytes : List ℕ) : Type 0 where
-  pub magic : magic_of bytes ≡ codes "Q4O1"
+  pub magic : HasMagic bytes
   pub positive : 1 ≤ generation_of bytes
   pub within : base_at + base_length_of bytes + 1 ≤ length bytes
 
@@ -64,8 +74,10 @@ pub record Begins (bytes : List ℕ) : Type 0 where
   pub header : HasHeader bytes
   pub generation : generation_of bytes ≤ generation_limit
 
--- The base spells the schema and then records that stand, up to one next record, and they replay to the table.
-pub record IsBase (columns : List Column) (base : List ℕ) (table : TableState) : Type 0 where
+-- The base spells the schema, which the format has, and then records that stand, up to one next record, and they replay
+-- to the table.
+pub record IsBase (format : Format) (columns : List Column) (base : List ℕ) (table : TableState) : Type 0 where
+  pub may : All (MayHave format) columns
   pub records : List Record
   pub base_is : base ≡ schema_bytes columns ++ records_bytes records
   pub stand : AllStand (at_base columns) records
@@ -90,7 +102,7 @@ after_batches replay batches = fold replays replay batches
 pub record Reaches (columns : List Column) (bytes : List ℕ) (batches : List (List Record)) (replay : Replay) (rest : List ℕ) : Type 0 where
   pub begins : Begins bytes
   pub base_table : TableState
-  pub base : IsBase columns (base_of bytes) base_table
+  pub base : IsBase (format_of bytes) columns (base_of bytes) base_table
   pub behind : behind_base bytes ≡ batches_bytes batches ++ rest
   pub stand : BatchesStand (at_batches base_table) batches
   pub replay_is : replay ≡ after_batches (at_batches base_table) batches

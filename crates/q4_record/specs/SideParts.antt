@@ -2,6 +2,7 @@
 use Rattle.std.specs.Prelude.{◌≡◌, ◌≢◌, ◌+◌, ℕ, List, ◌∷◌, ◌++◌, Option, None, Some, length}
 use Rattle.q4_value.specs.declared.column.Column.{Column}
 use Rattle.q4_table.specs.TableState.{TableState}
+use Rattle.q4_record.specs.declared.header.Format.{Format}
 use Rattle.q4_record.specs.declared.replay.Replay.{Replay}
 use Rattle.q4_record.specs.declared.side.SideFault.{SideFault}
 use Rattle.q4_record.specs.declared.side.SideFault.TheVariants as fault
@@ -21,9 +22,9 @@ abbrev pub HeaderFailed : List ℕ → SideFault → Type 0
 HeaderFailed bytes fault.Closed = IsOpen bytes → ⊥
 HeaderFailed bytes why = IsOpen bytes × HeaderFails bytes why
 
-abbrev pub BaseFailed : List Column → List ℕ → SideFault → Type 0
-BaseFailed columns base fault.Memory = Unit {0}
-BaseFailed columns base why = BaseFails columns base why
+abbrev pub BaseFailed : Format → List Column → List ℕ → SideFault → Type 0
+BaseFailed format columns base fault.Memory = Unit {0}
+BaseFailed format columns base why = BaseFails format columns base why
 
 -- These batches stand behind a base that leads to this table, and lead to this replay.
 pub record LeadsTo (table : TableState) (batches : List (List Record)) (replay : Replay) : Type 0 where

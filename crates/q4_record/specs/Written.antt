@@ -12,18 +12,20 @@ use Rattle.q4_record.specs.Replay.{at_batches}
 use Rattle.q4_record.specs.Schema.{schema_bytes, IsSchema}
 use Rattle.q4_record.specs.Side.{side_limit, generation_limit, base_at, batches_bytes, BatchesStand, after_batches, HasRoom}
 
-abbrev pub row_record : StoredRow → Record
-row_record r = record { head = Insert r.number None; row = r.row }
+-- rows are spelled by the table's columns
+abbrev pub row_record : List Column → StoredRow → Record
+row_record columns r = record { head = Insert r.number None; columns = columns; row = r.row }
 
 abbrev pub mark_record : marks.Mark → Record
-mark_record m = record { head = Mark m.source m.number; row = [] }
+mark_record m = record { head = Mark m.source m.number; columns = []; row = [] }
 
 abbrev pub next_record : ℕ → Record
-next_record number = record { head = Next number; row = [] }
+next_record number = record { head = Next number; columns = []; row = [] }
 
 -- the records of a table's base: its rows, its marks and its next number
 abbrev pub base_records : TableState → List Record
-base_records table = map row_record table.rows ++ (map mark_record table.marks ++ next_record table.next ∷ [])
+base_records table =
+    map (row_record table.columns) table.rows ++ (map mark_record table.marks ++ next_record table.next ∷ [])
 
 abbrev pub base_bytes : TableState → List ℕ
 base_bytes table = schema_bytes table.columns ++ records_bytes (base_records table)
@@ -31,7 +33,7 @@ base_bytes table = schema_bytes table.columns ++ records_bytes (base_records tab
 -- an open gate, the magic, the generation, the length of the base, the base, and what is behind it
 abbrev pub side_bytes : ℕ → List ℕ → List ℕ → List ℕ
 side_bytes generation base behind =
-    1 ∷ codes "Q4O1" ++ to_be_bytes w64 generation ++ to_be_bytes w64 (length base) ++ (base ++ behind)
+    1 ∷ codes "Q4O2" ++ to_be_bytes w64 generation ++ to_be_bytes w64 (length base) ++ (base ++ behind)
 
 -- the table as a base, batches behind it, and the closing gate
 abbrev pub written : TableState → ℕ → List (List Record) → ℕ → List ℕ → List ℕ

@@ -12,6 +12,7 @@ ghost use Rattle.q4_table.specs.Rows.{IsThere, without_row};
 ghost use Rattle.q4_table.specs.Adding.{IsOrigin, check_of, add_row};
 ghost use Rattle.q4_table.specs.Valid.{IsColumns, IsValidTable};
 ghost use Rattle.q4_record.specs.declared.head.Head.TheVariants as head;
+ghost use Rattle.q4_record.specs.declared.header.Format.{Format as SideFormat};
 ghost use Rattle.q4_record.specs.declared.side.SideFault.{SideFault as Fault};
 ghost use Rattle.q4_record.specs.declared.side.SideFault.TheVariants as fault;
 ghost use Rattle.q4_record.specs.Record.{Record as SideRecord};
@@ -44,19 +45,26 @@ pub fn written_sides_are_read()
 
 /// Laws: the record of a change that a table takes stands in a batch behind the table, and leads to the changed table.
 pub fn changes_stand()
-    ensures added { (table : TableState) (row : List Field) (origin : Option RowOrigin) → IsValidTable table → Fits table.columns row → ForSome origin IsOrigin
-        → check_of table row origin ≡ check.New → Stands (at_batches table) (record { head = head.Insert table.next origin; row = row }) }
+    ensures added { (table : TableState) (row : List Field) (origin : Option RowOrigin)
+        → IsValidTable table → Fits table.columns row → ForSome origin IsOrigin
+        → check_of table row origin ≡ check.New
+        → Stands (at_batches table)
+        (record { head = head.Insert table.next origin; columns = table.columns; row = row }) }
     ensures added_leads { (table : TableState) (row : List Field) (origin : Option RowOrigin)
-        → replayed (at_batches table) (record { head = head.Insert table.next origin; row = row }) ≡ at_batches (add_row table row origin) }
+        → replayed (at_batches table)
+        (record { head = head.Insert table.next origin; columns = table.columns; row = row })
+        ≡ at_batches (add_row table row origin) }
     ensures ended { (table : TableState) (number : ℕ) → IsValidTable table → IsThere table.rows number
-        → Stands (at_batches table) (record { head = head.End number; row = [] }) }
+        → Stands (at_batches table) (record { head = head.End number; columns = []; row = [] }) }
     ensures ended_leads { (table : TableState) (number : ℕ)
-        → replayed (at_batches table) (record { head = head.End number; row = [] }) ≡ at_batches (record table { rows = without_row number table.rows }) }
+        → replayed (at_batches table) (record { head = head.End number; columns = []; row = [] })
+        ≡ at_batches (record table { rows = without_row number table.rows }) }
 {}
 
 /// A law: a base is a schema, then inserts and ends, then marks by rising source, then one next record.
 pub fn bases_have_their_order()
-    ensures { (columns : List Header) (base : List ℕ) (table : TableState) → IsBase columns base table → BaseParts columns base }
+    ensures { (format : SideFormat) (columns : List Header) (base : List ℕ) (table : TableState)
+        → IsBase format columns base table → BaseParts columns base }
 {}
 
 /// A law: a side of columns stands for a valid table of these columns, which nobody owns a row of.

@@ -10,11 +10,11 @@ ghost use Rattle.q4_record.specs.Wide.{is_long};
 ghost use Rattle.q4_record.specs.Replay.{MayForward, MayInsert, MayEnd, MayMark, MayNext, MayCome, table_after, replayed, passed_limit};
 ghost use Rattle.q4_record.specs.Parts.{IsReady, RowStands, RowFails, RecordStood, RecordFailed, SectionStood, SectionFailed};
 
-use crate::extent::{Extent, row_extent};
+use crate::extent::{Extent, optional_count, row_extent};
 use crate::head::{Head, read_head};
 use crate::side::SideFault;
 use q4_table::{Mode, Origin, Table};
-use q4_value::{Row, RowBytes, read_row};
+use q4_value::{Row, RowBytes, read_row, row_size};
 use std::alloc::Global;
 
 // Row numbers, and the numbers of sources, stay below this one.
@@ -211,7 +211,7 @@ impl Replay {
         ensures fault { IfErr result (RowFails self.old (Head.Insert number origin) bytes.now at) }
     {
         match read_row(alloc, self.table.columns(), bytes) {
-            Ok((row, len)) => match self.limit_passed(number, len as u64, false) {
+            Ok((row, len)) => match self.limit_passed(number, row_size(&row), false) {
                 Some(limit) => Err(SideFault::Large(limit)),
                 None => {
                     self.add(number, origin, row)?;
@@ -221,6 +221,7 @@ impl Replay {
             Err(RowBytes::Large(_)) => Err(self.long_row_fault(number, origin, bytes, at)),
             Err(RowBytes::Short(_)) => Err(SideFault::Damaged(at)),
             Err(RowBytes::NotText(_)) => Err(SideFault::Damaged(at)),
+            Err(RowBytes::Flag(_)) => Err(SideFault::Damaged(at)),
             Err(RowBytes::Memory) => Err(SideFault::Memory),
         }
     }
@@ -233,15 +234,18 @@ impl Replay {
         bytes: &[u8],
         at: u64,
     ) -> SideFault
-        requires { (row : List Field) (rest : List ℕ) → IsRowOf self.now.table.columns row → bytes.now ≡ row_bytes row ++ rest → ⊥ }
+        requires { (row : List Field) (rest : List ℕ) → IsRowOf self.now.table.columns row → bytes.now ≡ row_bytes self.now.table.columns row ++ rest → ⊥ }
         ensures { RowFails self.now (Head.Insert number origin) bytes.now at result }
     {
         let (extent, long) = row_extent(self.table.columns(), bytes);
         match extent {
-            Extent::Whole(len) => match self.limit_passed(number, len as u64, long) {
-                Some(limit) => SideFault::Large(limit),
-                None => SideFault::Damaged(at),
-            },
+            Extent::Whole(len) => {
+                let size = len - optional_count(self.table.columns());
+                match self.limit_passed(number, size as u64, long) {
+                    Some(limit) => SideFault::Large(limit),
+                    None => SideFault::Damaged(at),
+                }
+            }
             Extent::Cut => {
                 if long {
                     SideFault::Large(4)
@@ -249,7 +253,7 @@ impl Replay {
                     SideFault::Damaged(at)
                 }
             }
-            Extent::IllFormed => SideFault::Damaged(at),
+            Extent::Unreadable => SideFault::Damaged(at),
         }
     }
 
@@ -278,7 +282,7 @@ impl Replay {
         requires may { MayInsert self.old.stage self.old.table number origin }
         requires fits { IsRowOf self.old.table.columns row }
         requires within { passed_limit (table_after self.old.table (Head.Insert number origin) row) row ≡ None }
-        ensures added { OnOk result (self.new ≡ replayed self.old (record { head = Head.Insert number origin; row = row })) }
+        ensures added { OnOk result (self.new ≡ replayed self.old (record { head = Head.Insert number origin; columns = self.old.table.columns; row = row })) }
         ensures fault { IfErr result (λ why. why ≡ SideFault.Memory) }
     {
         self.table.set_next(number);

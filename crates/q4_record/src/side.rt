@@ -1,31 +1,22 @@
-ghost use Rattle.std.specs.Prelude.{◌≡◌, ◌≢◌, ◌≤◌, ◌+◌, ◌∷◌, ◌++◌, ◌⊎◌, ℕ, List, Ok, Err, length, codes, IfOk, IfErr, OnOk, IfSome, IfNone};
-ghost use Rattle.std.specs.Bool.{OnTrue, OnFalse};
+ghost use Rattle.std.specs.Prelude.{◌≡◌, ◌≤◌, ◌+◌, ◌∷◌, ◌++◌, ◌⊎◌, ℕ, List, Ok, Err, length, IfOk, IfErr, IfSome, IfNone};
 ghost use Rattle.std.specs.Int.{w32, to_be_bytes};
 ghost use Rattle.q4_table.specs.TableState.{TableState};
 ghost use Rattle.q4_table.specs.Valid.{IsColumns};
 ghost use Rattle.q4_record.specs.declared.side.SideFault.{SideFault as Fault};
 ghost use Rattle.q4_record.specs.Schema.{IsSchema};
 ghost use Rattle.q4_record.specs.Replay.{at_batches};
-ghost use Rattle.q4_record.specs.Side.{side_limit, generation_of, told_at, magic_of, base_of, behind_base, Begins, IsBase, Side};
+ghost use Rattle.q4_record.specs.Side.{side_limit, IsBase, Side};
 ghost use Rattle.q4_record.specs.Faults.{EndsInBatch, SideFails};
 ghost use Rattle.q4_record.specs.Parts.{IsReady};
-ghost use Rattle.q4_record.specs.SideParts.{HeaderFailed, BaseFailed, BatchesRead, BatchesFailed};
+ghost use Rattle.q4_record.specs.SideParts.{BaseFailed, BatchesRead, BatchesFailed};
 
 use crate::fields::take_length;
+use crate::header::{BASE_AT, Format, SIDE_LIMIT, read_header};
 use crate::replay::{Replay, Stage};
 use crate::schema::read_schema;
 use q4_table::Table;
 use q4_value::Columns;
 use std::alloc::Global;
-
-// The most bytes of a side.
-const SIDE_LIMIT: usize = 536_870_912;
-
-// The greatest generation.
-const GENERATION_LIMIT: u64 = 1 << 62;
-
-// Where the base begins.
-const BASE_AT: usize = 21;
 
 /// Why the bytes of a side stand for no table. Places are counted from 0 in the side's bytes.
 #[derive(Clone, Copy, Debug, PartialEq, Eq)]
@@ -43,14 +34,6 @@ pub enum SideFault {
     Large(u32),
     /// Memory was wanted and could not be had.
     Memory,
-}
-
-/// What stands before a side's base, the base, and what is behind it.
-#[derive(Drop)]
-struct Header<'a> {
-    generation: u64,
-    base: &'a [u8],
-    behind: &'a [u8],
 }
 
 /// Reads a side: the table of these columns that its records lead to, which nobody owns a row of, its generation, and
@@ -84,7 +67,7 @@ fn read_parts(alloc: Global, bytes: &[u8], columns: Columns) -> Result<(Table, u
     ensures fault { IfErr result (SideFails columns bytes.now) }
 {
     let header = read_header(bytes)?;
-    let table = read_base(alloc, header.base, columns)?;
+    let table = read_base(alloc, header.format, header.base, columns)?;
     let at = BASE_AT + header.base.len();
     let (table, len) = read_batches(alloc, table, header.behind, at)?;
     if len + 32 * u64::from(table.count()) > SIDE_LIMIT as u64 {
@@ -93,71 +76,22 @@ fn read_parts(alloc: Global, bytes: &[u8], columns: Columns) -> Result<(Table, u
     Ok((table, header.generation, len))
 }
 
-// The header, the base and what is behind it. At least the closing gate is.
-fn read_header(bytes: &[u8]) -> Result<Header<'_>, SideFault>
-    ensures begins { OnOk result (Begins bytes.now) }
-    ensures parts { IfOk result (λ header. (header.generation ≡ generation_of bytes.now)
-        × (header.base.now ≡ base_of bytes.now) × (header.behind.now ≡ behind_base bytes.now)) }
-    ensures fault { IfErr result (HeaderFailed bytes.now) }
-{
-    if bytes.len() < BASE_AT || bytes[0] != 1 {
-        return Err(SideFault::Closed);
-    }
-    if bytes.len() > SIDE_LIMIT {
-        return Err(SideFault::Large(6));
-    }
-    let generation = number_at(bytes, 5);
-    let len = number_at(bytes, 13);
-    let (_, parts) = bytes.split_at(BASE_AT);
-    if !has_magic(bytes) || generation == 0 || len >= parts.len() as u64 {
-        return Err(SideFault::Damaged(0));
-    }
-    if generation > GENERATION_LIMIT {
-        return Err(SideFault::Large(7));
-    }
-    let (base, behind) = parts.split_at(len as usize);
-    Ok(Header {
-        generation,
-        base,
-        behind,
-    })
-}
-
-// Whether the magic stands behind the gate.
-fn has_magic(bytes: &[u8]) -> bool
-    requires { 5 ≤ length bytes.now }
-    ensures has { OnTrue result (magic_of bytes.now ≡ codes "Q4O1") }
-    ensures has_not { OnFalse result (magic_of bytes.now ≢ codes "Q4O1") }
-{
-    let (_, behind) = bytes.split_at(1);
-    let (magic, _) = behind.split_at(4);
-    magic == b"Q4O1".as_slice()
-}
-
-// The number of 64 bits at this place.
-#[tactic(auto, unfolding(crate::specs::Side::told_at))]
-fn number_at(bytes: &[u8], at: usize) -> u64
-    requires { at + 8 ≤ length bytes.now }
-    ensures { result ≡ told_at at bytes.now }
-{
-    let (_, rest) = bytes.split_at(at);
-    let (front, _) = rest.split_at(8);
-    u64::from_be_bytes([
-        front[0], front[1], front[2], front[3], front[4], front[5], front[6], front[7],
-    ])
-}
-
 // The table that a base leads to.
-fn read_base(alloc: Global, base: &[u8], columns: Columns) -> Result<Table, SideFault>
+fn read_base(
+    alloc: Global,
+    format: Format,
+    base: &[u8],
+    columns: Columns,
+) -> Result<Table, SideFault>
     requires columns { IsColumns columns }
     requires schema { IsSchema columns }
     requires few { length base.now ≤ side_limit }
-    ensures base { IfOk result (λ table. IsBase columns base.now table) }
+    ensures base { IfOk result (λ table. IsBase format columns base.now table) }
     ensures ready { IfOk result (λ table. IsReady (at_batches table)) }
-    ensures fault { IfErr result (BaseFailed columns base.now) }
+    ensures fault { IfErr result (BaseFailed format columns base.now) }
 {
     let at = BASE_AT as u64;
-    let records = read_schema(columns.as_slice(), base, at)?;
+    let records = read_schema(format, columns.as_slice(), base, at)?;
     let begin = at + (base.len() - records.len()) as u64;
     let mut replay = Replay {
         stage: Stage::Rows,

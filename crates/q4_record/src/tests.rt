@@ -1,7 +1,9 @@
-ghost use Rattle.std.specs.Prelude.{◌<◌, ◌^◌, All};
-ghost use Rattle.q4_value.specs.Row.{IsValue, row_size as size_of};
+ghost use Rattle.std.specs.Prelude.{◌≤◌, length};
+ghost use Rattle.q4_value.specs.Row.{IsRowOf};
 ghost use Rattle.q4_table.specs.Valid.{IsColumns};
 ghost use Rattle.q4_record.specs.Schema.{IsSchema};
+
+mod nulls;
 
 use super::*;
 use crate::side::SideFault::{Closed, Damaged, Large, Schema};
@@ -25,42 +27,96 @@ const WORKED: [u8; 83] = [
     0x00, // 82: the closing gate
 ];
 
-fn jobs(rt: &impl Abort, alloc: Global) -> Columns
+// The columns `prio` and `body`, which are optional or not.
+fn columns_of(rt: &impl Abort, alloc: Global, prio: bool, body: bool) -> Columns
     ensures columns { IsColumns result }
     ensures schema { IsSchema result }
 {
     let mut columns = Columns::new(alloc);
     let name = Words::new(alloc, "prio").expect(rt, "memory");
-    let kind = Kind::Int;
-    assert!(rt; columns.push(Column { name, kind }).is_ok());
+    let column = Column {
+        name,
+        kind: Kind::Int,
+        optional: prio,
+    };
+    assert!(rt; columns.push(column).is_ok());
     let name = Words::new(alloc, "body").expect(rt, "memory");
-    let kind = Kind::Words;
-    assert!(rt; columns.push(Column { name, kind }).is_ok());
+    let column = Column {
+        name,
+        kind: Kind::Words,
+        optional: body,
+    };
+    assert!(rt; columns.push(column).is_ok());
     columns
 }
 
-fn job(rt: &impl Abort, alloc: Global, prio: i64, body: &str) -> Row
-    ensures values { All IsValue result }
-    ensures size { size_of result < 2 ^ 64 }
+fn jobs(rt: &impl Abort, alloc: Global) -> Columns
+    ensures columns { IsColumns result }
+    ensures schema { IsSchema result }
+{
+    columns_of(rt, alloc, false, false)
+}
+
+// The row of a number and a text, where none of either is null.
+fn row_of(
+    rt: &impl Abort,
+    alloc: Global,
+    columns: &[Column],
+    prio: Option<i64>,
+    body: Option<&str>,
+) -> Row
+    requires { length columns.now ≤ 32 }
+    ensures { IsRowOf columns.now result }
 {
     let mut row = Row::new(alloc);
-    let body = Words::new(alloc, body).expect(rt, "memory");
-    assert!(rt; row.push(Value::Int(prio)).is_ok());
-    assert!(rt; row.push(Value::Word(body)).is_ok());
-    match fits(jobs(rt, alloc).as_slice(), &row) {
+    let prio = match prio {
+        Some(prio) => Value::Int(prio),
+        None => Value::Null,
+    };
+    let body = match body {
+        Some(body) => Value::Word(Words::new(alloc, body).expect(rt, "memory")),
+        None => Value::Null,
+    };
+    assert!(rt; row.push(prio).is_ok());
+    assert!(rt; row.push(body).is_ok());
+    match fits(columns, &row) {
         Ok(()) => row,
         Err(_) => panic!(rt; "the row does not fit"),
     }
 }
 
-// The first so many bytes of the worked side, with some bytes changed.
-fn changed(rt: &impl Abort, alloc: Global, len: usize, changes: &[(usize, u8)]) -> Vec<u8> {
+// Puts an insert into the table of jobs.
+fn put_job(
+    rt: &impl Abort,
+    alloc: Global,
+    number: u64,
+    job: (i64, &str),
+    origin: Option<Origin>,
+    out: &mut Bytes,
+) {
+    let columns = jobs(rt, alloc);
+    let row = row_of(rt, alloc, columns.as_slice(), Some(job.0), Some(job.1));
+    put(
+        rt,
+        put_insert(columns.as_slice(), number, &row, origin, out),
+    );
+}
+
+// The first so many bytes of a side, with its format's byte in the magic and with some bytes changed.
+fn changed(
+    rt: &impl Abort,
+    alloc: Global,
+    side: &[u8],
+    format: u8,
+    len: usize,
+    changes: &[(usize, u8)],
+) -> Vec<u8> {
     let mut bytes = Vec::new(alloc);
-    for (at, byte) in WORKED.iter().enumerate() {
+    for (at, byte) in side.iter().enumerate() {
         if at >= len {
             break;
         }
-        let mut byte = *byte;
+        let mut byte = if at == 4 { format } else { *byte };
         for change in changes {
             if change.0 == at {
                 byte = change.1;
@@ -75,7 +131,14 @@ fn changed(rt: &impl Abort, alloc: Global, len: usize, changes: &[(usize, u8)]) 
 type Wanted = Result<(u32, u64, u64, u64), SideFault>;
 
 fn read(rt: &impl Abort, alloc: Global, bytes: &[u8]) -> Wanted {
-    let (table, generation, len) = read_side(alloc, bytes, jobs(rt, alloc))?;
+    read_as(alloc, bytes, jobs(rt, alloc))
+}
+
+fn read_as(alloc: Global, bytes: &[u8], columns: Columns) -> Wanted
+    requires columns { IsColumns columns }
+    requires schema { IsSchema columns }
+{
+    let (table, generation, len) = read_side(alloc, bytes, columns)?;
     Ok((table.count(), table.next(), generation, len))
 }
 
@@ -105,6 +168,7 @@ const CHANGED: [(usize, &[(usize, u8)], Wanted); 56] = [
     (21, &[], Err(Damaged(0))),
     (44, &[], Err(Damaged(0))),
     (83, &[(1, 0x52)], Err(Damaged(0))),
+    (83, &[(4, b'3')], Err(Damaged(0))),
     (83, &[(12, 0)], Err(Damaged(0))),
     (83, &[(20, 62)], Err(Damaged(0))),
     (83, &[(20, 0xff)], Err(Damaged(0))),
@@ -116,7 +180,6 @@ const CHANGED: [(usize, &[(usize, u8)], Wanted); 56] = [
     (83, &[(20, 0)], Err(Damaged(21))),
     (83, &[(20, 13)], Err(Damaged(21))),
     (83, &[(21, 6)], Err(Damaged(21))),
-    (83, &[(23, 3)], Err(Damaged(21))),
     (83, &[(23, 7)], Err(Damaged(21))),
     (83, &[(22, 3)], Err(Damaged(21))),
     (83, &[(23, 2)], Err(Schema(1))),
@@ -160,12 +223,15 @@ const CHANGED: [(usize, &[(usize, u8)], Wanted); 56] = [
     (83, &[(66, 1), (57, 2)], Err(Damaged(49))),
 ];
 
+// In a table without optional columns the two formats differ by the magic alone.
 #[test]
 fn changed_sides(rt: HostRuntime) {
     let alloc = rt.alloc();
     for (len, changes, wanted) in CHANGED {
-        let bytes = changed(&rt, alloc, len, changes);
-        assert_eq!(rt; read(&rt, alloc, &bytes), wanted);
+        for format in [b'1', b'2'] {
+            let bytes = changed(&rt, alloc, &WORKED, format, len, changes);
+            assert_eq!(rt; read(&rt, alloc, &bytes), wanted);
+        }
     }
 }
 
@@ -176,7 +242,7 @@ fn put(rt: &impl Abort, put: Result<(), NoMemory>) {
 // An open gate, the magic, the generation, the length of the base, the base, and what is behind it.
 fn side_of(rt: &impl Abort, alloc: Global, base: &Bytes, behind: &[&[u8]]) -> Bytes {
     let mut side = Bytes::new(alloc);
-    put(rt, side.push(b"\x01Q4O1\x00\x00\x00\x00\x00\x00\x00\x01"));
+    put(rt, side.push(b"\x01Q4O2\x00\x00\x00\x00\x00\x00\x00\x01"));
     put(rt, side.push(&(base.as_slice().len() as u64).to_be_bytes()));
     put(rt, side.push(base.as_slice()));
     for part in behind {
@@ -190,8 +256,8 @@ fn base_of(rt: &impl Abort, alloc: Global) -> Bytes {
     let columns = jobs(rt, alloc);
     let mut base = Bytes::new(alloc);
     put(rt, put_schema(columns.as_slice(), &mut base));
-    put(rt, put_insert(2, &job(rt, alloc, 1, "a"), None, &mut base));
-    put(rt, put_insert(3, &job(rt, alloc, -1, "b"), None, &mut base));
+    put_job(rt, alloc, 2, (1, "a"), None, &mut base);
+    put_job(rt, alloc, 3, (-1, "b"), None, &mut base);
     put(rt, put_end(2, &mut base));
     put(rt, put_mark(2, 7, &mut base));
     put(rt, put_next(5, &mut base));
@@ -225,32 +291,28 @@ fn put_records_are_the_worked_side(rt: HostRuntime) {
     put(&rt, put_schema(columns.as_slice(), &mut base));
     put(&rt, put_next(1, &mut base));
     let mut records = Bytes::new(alloc);
-    put(
-        &rt,
-        put_insert(1, &job(&rt, alloc, 7, "resize a.png"), None, &mut records),
-    );
+    put_job(&rt, alloc, 1, (7, "resize a.png"), None, &mut records);
     let batch = batch_of(&rt, alloc, &records);
     let side = side_of(&rt, alloc, &base, &[batch.as_slice(), &[0]]);
-    assert_eq!(rt; side.as_slice(), WORKED.as_slice());
+    let worked = changed(&rt, alloc, &WORKED, b'2', 83, &[]);
+    assert_eq!(rt; side.as_slice(), worked.as_slice());
 }
 
 #[test]
 fn put_records_are_read(rt: HostRuntime) {
     let alloc = rt.alloc();
     let mut records = Bytes::new(alloc);
-    let row = job(&rt, alloc, 4, "c");
-    put(
+    let job = (4, "c");
+    put_job(&rt, alloc, 5, job, from_source(2, Mode::A, 8), &mut records);
+    put_job(
         &rt,
-        put_insert(5, &row, from_source(2, Mode::A, 8), &mut records),
+        alloc,
+        6,
+        job,
+        from_source(63, Mode::W, 1),
+        &mut records,
     );
-    put(
-        &rt,
-        put_insert(6, &row, from_source(63, Mode::W, 1), &mut records),
-    );
-    put(
-        &rt,
-        put_insert(7, &row, from_source(2, Mode::W, 3), &mut records),
-    );
+    put_job(&rt, alloc, 7, job, from_source(2, Mode::W, 3), &mut records);
     put(&rt, put_end(3, &mut records));
     put(&rt, put_end(7, &mut records));
     let batch = batch_of(&rt, alloc, &records);
@@ -279,7 +341,6 @@ fn fault_of(rt: &impl Abort, alloc: Global, record: &Bytes) -> Wanted {
 #[test]
 fn records_out_of_place(rt: HostRuntime) {
     let alloc = rt.alloc();
-    let row = job(&rt, alloc, 4, "c");
     // Of forwarded inserts: the row number, and where the row comes from.
     let inserts: [(u64, Option<Origin>, Wanted); 8] = [
         (5, from_source(2, Mode::A, 8), Ok((2, 6, 1, 145))),
@@ -293,7 +354,7 @@ fn records_out_of_place(rt: HostRuntime) {
     ];
     for (number, origin, wanted) in inserts {
         let mut record = Bytes::new(alloc);
-        put(&rt, put_insert(number, &row, origin, &mut record));
+        put_job(&rt, alloc, number, (4, "c"), origin, &mut record);
         assert_eq!(rt; fault_of(&rt, alloc, &record), wanted);
     }
     for number in [2, 4] {
@@ -332,7 +393,6 @@ enum Part {
 fn bases_out_of_order(rt: HostRuntime) {
     use Part::{End, Mark, Next, Row};
     let alloc = rt.alloc();
-    let row = job(&rt, alloc, 4, "c");
     let forwarded = from_source(2, Mode::A, 8);
     // A row takes 22 bytes, or 32 where it was forwarded, an end and a next record 9, a mark 10.
     let cases: [(&[Part], Wanted); 14] = [
@@ -354,15 +414,14 @@ fn bases_out_of_order(rt: HostRuntime) {
     for (parts, wanted) in cases {
         let mut records = Bytes::new(alloc);
         for part in parts {
-            put(
-                &rt,
-                match *part {
-                    Row(number, origin) => put_insert(number, &row, origin, &mut records),
-                    End(number) => put_end(number, &mut records),
-                    Mark(source, number) => put_mark(source, number, &mut records),
-                    Next(number) => put_next(number, &mut records),
-                },
-            );
+            match *part {
+                Row(number, origin) => {
+                    put_job(&rt, alloc, number, (4, "c"), origin, &mut records);
+                }
+                End(number) => put(&rt, put_end(number, &mut records)),
+                Mark(source, number) => put(&rt, put_mark(source, number, &mut records)),
+                Next(number) => put(&rt, put_next(number, &mut records)),
+            }
         }
         assert_eq!(rt; base_fault(&rt, alloc, &records), wanted);
     }

@@ -1,28 +1,29 @@
-ghost use Rattle.std.specs.Prelude.{◌≡◌, ◌^◌, ◌<◌, ◌++◌, [], List, ℕ, All, length, OnOk, OnErr};
+ghost use Rattle.std.specs.Prelude.{◌≡◌, ◌<◌, ◌++◌, [], List, ℕ, length, OnOk, OnErr};
 ghost use Rattle.std.specs.Int.{w64, to_be_bytes};
-ghost use Rattle.q4_value.specs.Row.{IsValue, row_size as size_of};
+ghost use Rattle.q4_value.specs.Row.{IsRowOf};
 ghost use Rattle.q4_record.specs.Record.{mode_byte as byte_of_mode, head_bytes, record_bytes};
-ghost use Rattle.q4_record.specs.Schema.{IsSchema, kind_byte as byte_of_kind, column_bytes, schema_bytes};
+ghost use Rattle.q4_record.specs.Schema.{IsSchema, kind_byte as byte_of_column, column_bytes, schema_bytes};
 
 use crate::head::Head;
 use q4_table::{Mode, Origin};
 use q4_value::{Bytes, Column, Kind, NoMemory, Row, put_row};
 
-/// Puts the record of a row that was added behind what is there: its number, where it came from if it was
-/// forwarded, and its values. A refusal leaves what was there.
+/// Puts the record of a row of these columns that was added behind what is there: its number, where it came from if it
+/// was forwarded, and its values. A refusal leaves what was there.
 pub fn put_insert(
+    columns: &[Column],
     number: u64,
     row: &Row,
     origin: Option<Origin>,
     out: &mut Bytes,
 ) -> Result<(), NoMemory>
-    requires values { All IsValue row.now }
-    requires size { size_of row.now < 2 ^ 64 }
-    ensures put { OnOk result (out.new ≡ out.old ++ record_bytes (record { head = Head.Insert number origin; row = row.now })) }
+    requires { IsRowOf columns.now row.now }
+    ensures put { OnOk result (out.new ≡ out.old
+        ++ record_bytes (record { head = Head.Insert number origin; columns = columns.now; row = row.now })) }
     ensures kept { OnErr result (out.new ≡ out.old) }
 {
     let before = out.as_slice().len();
-    let put = put_head_and_row(Head::Insert(number, origin), row, out);
+    let put = put_head_and_row(columns, Head::Insert(number, origin), row, out);
     if put.is_err() {
         out.cut(before);
     }
@@ -31,7 +32,7 @@ pub fn put_insert(
 
 /// Puts the record of the end of a row behind what is there. A refusal leaves what was there.
 pub fn put_end(number: u64, out: &mut Bytes) -> Result<(), NoMemory>
-    ensures put { OnOk result (out.new ≡ out.old ++ record_bytes (record { head = Head.End number; row = [] })) }
+    ensures put { OnOk result (out.new ≡ out.old ++ record_bytes (record { head = Head.End number; columns = []; row = [] })) }
     ensures kept { OnErr result (out.new ≡ out.old) }
 {
     put_rowless(Head::End(number), out)
@@ -39,7 +40,7 @@ pub fn put_end(number: u64, out: &mut Bytes) -> Result<(), NoMemory>
 
 /// Puts the record of a source's mark behind what is there. A refusal leaves what was there.
 pub fn put_mark(source: u8, number: u64, out: &mut Bytes) -> Result<(), NoMemory>
-    ensures put { OnOk result (out.new ≡ out.old ++ record_bytes (record { head = Head.Mark source number; row = [] })) }
+    ensures put { OnOk result (out.new ≡ out.old ++ record_bytes (record { head = Head.Mark source number; columns = []; row = [] })) }
     ensures kept { OnErr result (out.new ≡ out.old) }
 {
     put_rowless(Head::Mark(source, number), out)
@@ -47,7 +48,7 @@ pub fn put_mark(source: u8, number: u64, out: &mut Bytes) -> Result<(), NoMemory
 
 /// Puts the record of the next row number, which ends a base, behind what is there. A refusal leaves what was there.
 pub fn put_next(number: u64, out: &mut Bytes) -> Result<(), NoMemory>
-    ensures put { OnOk result (out.new ≡ out.old ++ record_bytes (record { head = Head.Next number; row = [] })) }
+    ensures put { OnOk result (out.new ≡ out.old ++ record_bytes (record { head = Head.Next number; columns = []; row = [] })) }
     ensures kept { OnErr result (out.new ≡ out.old) }
 {
     put_rowless(Head::Next(number), out)
@@ -82,14 +83,19 @@ fn put_rowless(head: Head, out: &mut Bytes) -> Result<(), NoMemory>
 }
 
 // Puts both. A refusal may leave more behind what was there.
-fn put_head_and_row(head: Head, row: &Row, out: &mut Bytes) -> Result<(), NoMemory>
-    requires values { All IsValue row.now }
-    requires size { size_of row.now < 2 ^ 64 }
-    ensures put { OnOk result (out.new ≡ out.old ++ record_bytes (record { head = head; row = row.now })) }
+fn put_head_and_row(
+    columns: &[Column],
+    head: Head,
+    row: &Row,
+    out: &mut Bytes,
+) -> Result<(), NoMemory>
+    requires { IsRowOf columns.now row.now }
+    ensures put { OnOk result (out.new ≡ out.old
+        ++ record_bytes (record { head = head; columns = columns.now; row = row.now })) }
     ensures begins { OnErr result ((more : List ℕ) × (out.new ≡ out.old ++ more)) }
 {
     put_head(head, out)?;
-    put_row(row, out)
+    put_row(columns, row, out)
 }
 
 fn put_head(head: Head, out: &mut Bytes) -> Result<(), NoMemory>
@@ -118,7 +124,7 @@ fn put_numbered(front: &[u8], number: u64, out: &mut Bytes) -> Result<(), NoMemo
     out.push(&number.to_be_bytes())
 }
 
-fn mode_byte(mode: Mode) -> u8
+pub(crate) fn mode_byte(mode: Mode) -> u8
     ensures { result ≡ byte_of_mode mode }
 {
     match mode {
@@ -127,12 +133,14 @@ fn mode_byte(mode: Mode) -> u8
     }
 }
 
-fn kind_byte(kind: Kind) -> u8
-    ensures { result ≡ byte_of_kind kind }
+fn kind_byte(column: &Column) -> u8
+    ensures { result ≡ byte_of_column column.now }
 {
-    match kind {
-        Kind::Int => 1,
-        Kind::Words => 2,
+    match (column.kind, column.optional) {
+        (Kind::Int, false) => 1,
+        (Kind::Words, false) => 2,
+        (Kind::Int, true) => 3,
+        (Kind::Words, true) => 4,
     }
 }
 
@@ -155,6 +163,6 @@ fn put_column(column: &Column, out: &mut Bytes) -> Result<(), NoMemory>
     ensures begins { OnErr result ((more : List ℕ) × (out.new ≡ out.old ++ more)) }
 {
     let name = column.name.as_str().as_bytes();
-    out.push(&[kind_byte(column.kind), name.len() as u8])?;
+    out.push(&[kind_byte(column), name.len() as u8])?;
     out.push(name)
 }

@@ -1,22 +1,22 @@
 use Rattle.std.proofs.Common.{refl, inl}
-use Rattle.q4_record.proofs.Cuts.{cut_of_short, ill_of_not_text}
+use Rattle.q4_record.proofs.Cuts.{cut_of_short, ill_of_not_text, ill_of_flag}
 use Rattle.q4_record.proofs.Inserting.{read_passes, read_within, read_stands, no_row_cut, no_row_ill}
 use Rattle.q4_record.proofs.replay.Replay.insert.Goals as goal
 
 pub returns-in-Some-clause-fault : goal.returns-in-Some-clause-fault
 returns-in-Some-clause-fault c =
     let r = rw c.columns.ensures at c.in-Ok.ensures.read in
-    inl (read_passes c.args.self.now c.args.number c.args.origin c.args.bytes.now c.in-Ok.row c.in-Ok.len c.in-Some.limit c.limit_passed.result r c.in-Ok.ensures.size c.limit_passed.ensures c.in-Some.is)
+    inl (read_passes c.args.self.now c.args.number c.args.origin c.args.bytes.now c.in-Ok.row c.in-Ok.len c.row_size.result c.in-Some.limit c.limit_passed.result r c.row_size.ensures c.limit_passed.ensures c.in-Some.is)
 
 pub add-requires-clause-within : goal.add-requires-clause-within
 add-requires-clause-within c =
     let r = rw c.columns.ensures at c.in-Ok.ensures.read in
-    read_within c.args.self.now c.args.number c.args.origin c.args.bytes.now c.in-Ok.row c.in-Ok.len c.limit_passed.result r c.in-Ok.ensures.size c.limit_passed.ensures c.in-None.is
+    read_within c.args.self.now c.args.number c.args.origin c.args.bytes.now c.in-Ok.row c.in-Ok.len c.row_size.result c.limit_passed.result r c.row_size.ensures c.limit_passed.ensures c.in-None.is
 
-pub returns-in_ok-add-in-None-clause-stands : goal.returns-in_ok-add-in-None-clause-stands
-returns-in_ok-add-in-None-clause-stands c =
+pub returns-in-Ok-clause-stands : goal.returns-in-Ok-clause-stands
+returns-in-Ok-clause-stands c =
     let r = rw c.columns.ensures at c.in-Ok.ensures.read in
-    let passed = read_within c.args.self.now c.args.number c.args.origin c.args.bytes.now c.in-Ok.row c.in-Ok.len c.limit_passed.result r c.in-Ok.ensures.size c.limit_passed.ensures c.in-None.is in
+    let passed = read_within c.args.self.now c.args.number c.args.origin c.args.bytes.now c.in-Ok.row c.in-Ok.len c.row_size.result c.limit_passed.result r c.row_size.ensures c.limit_passed.ensures c.in-None.is in
     rw c.split_at.ensures.back (read_stands c.args.self.now c.args.number c.args.origin c.args.bytes.now c.in-Ok.row c.in-Ok.len c.add.new.self r passed c.in_ok-add-in-None.ensures.added)
 
 pub returns-in-Err-Short-clause-fault : goal.returns-in-Err-Short-clause-fault
@@ -28,3 +28,8 @@ pub returns-in-Err-NotText-clause-fault : goal.returns-in-Err-NotText-clause-fau
 returns-in-Err-NotText-clause-fault c =
     let f = rw (c.in-Err-NotText.field-0-is, c.columns.ensures) at c.in-Err-NotText.ensures.fault in
     (refl, no_row_ill c.args.self.now c.args.number c.args.origin c.args.bytes.now (ill_of_not_text c.args.self.now.table.columns c.args.bytes.now c.in-Err-NotText.field-0-0 f))
+
+pub returns-in-Err-Flag-clause-fault : goal.returns-in-Err-Flag-clause-fault
+returns-in-Err-Flag-clause-fault c =
+    let f = rw (c.in-Err-Flag.field-0-is, c.columns.ensures) at c.in-Err-Flag.ensures.fault in
+    (refl, no_row_ill c.args.self.now c.args.number c.args.origin c.args.bytes.now (ill_of_flag c.args.self.now.table.columns c.args.bytes.now c.in-Err-Flag.field-0-0 f))
