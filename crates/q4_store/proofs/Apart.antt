@@ -13,7 +13,8 @@ use Rattle.q4_disk.specs.Told.{Sides}
 use Rattle.q4_disk.specs.Images.{on}
 use Rattle.q4_store.specs.declared.fault.OpenFault.{OpenFault}
 use Rattle.q4_store.specs.declared.fault.OpenFault.TheVariants as fault
-use Rattle.q4_store.specs.Reading.{HasMagic, IsCurrent, ReadsNew, Reads}
+use Rattle.q4_record.specs.Side.{HasMagic}
+use Rattle.q4_store.specs.Reading.{IsCurrent, ReadsNew, Reads}
 use Rattle.q4_store.specs.Opening.{LacksMagic, AreEqual, IsUnclear, CurrentFails, OpenFails, IsOutside}
 use Rattle.q4_store.proofs.Drafts.{is_schema}
 

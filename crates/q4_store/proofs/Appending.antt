@@ -5,6 +5,7 @@ use Rattle.std.proofs.lemmas.Bool.{cases_eq, eq-eqb, ne_eqb}
 use Rattle.std.proofs.lemmas.List.{take-append-le, flat_map_more}
 use Rattle.std.proofs.lemmas.List.Elements.{All-push, All-filter}
 use Rattle.std.proofs.lemmas.List.Sums.{fold_push}
+use Rattle.q4_value.specs.declared.column.Column.{Column}
 use Rattle.q4_value.specs.declared.row.Value.{Value}
 use Rattle.q4_table.specs.declared.origin.Origin.{Origin}
 use Rattle.q4_table.specs.declared.rows.StoredRow.{StoredRow}
@@ -54,6 +55,7 @@ appended told store content change records ends rows reserved s stands valid uno
     let more = table_more content change s.stand in
     record {
       columns = s.columns;
+      own = s.own;
       valid = subst IsValidTable (sym more) valid;
       unowned = subst (λ (t : TableState). All (λ (r : StoredRow). r.owner ≡ None) t.rows) (sym more) unowned;
       stand = stand_push (at_batches content.committed) content.pending change s.stand (subst (λ (replay : Replay). Stands replay change) (sym (replays_lead content.committed content.pending s.stand)) stands);
@@ -90,20 +92,23 @@ gone low next k [] rise there = absurd (cc there)
 gone low next k (r ∷ rs) rise there =
     ⊎_elim (gone_here low next k r rs rise) (λ differs. gone_later k r rs differs (gone r.number next k rs rise.2 (there_later k r rs differs there))) (cases_eq r.number k)
 
-pub row_appended : {D : Type 0} (told : D → Told) (store : Stored D) (content : Content) (number : ℕ) (row : List Value) (origin : Option Origin) (records : List ℕ) (reserved : ℕ) → StandsFor told store content → TakesRow content number row origin
-    → records ≡ store.records ++ record_bytes (row_added number row origin) → StandsFor told (record store { records = records; rows = store.rows + 1; reserved = reserved }) (with_change content (row_added number row origin))
-row_appended told store content number row origin records reserved s t records_are =
+pub row_appended : {D : Type 0} (told : D → Told) (store : Stored D) (content : Content) (columns : List Column) → (table_of content).columns ≡ columns → (number : ℕ) (row : List Value) (origin : Option Origin) (records : List ℕ) (reserved : ℕ) → StandsFor told store content → TakesRow content number row origin
+    → records ≡ store.records ++ record_bytes (row_added columns number row origin) → StandsFor told (record store { records = records; rows = store.rows + 1; reserved = reserved }) (with_change content (row_added columns number row origin))
+row_appended told store content columns own number row origin records reserved s t records_are =
     let table = table_of content in
-    let stands : Stands (at_batches table) (row_added number row origin) = subst (λ (n : ℕ). Stands (at_batches table) (row_added n row origin)) (sym t.is_next) (added_stands table row origin s.valid t.fits t.valid t.new) in
+    let stands : Stands (at_batches table) (row_added columns number row origin) =
+    subst (λ (n : ℕ). Stands (at_batches table) (row_added columns n row origin)) (sym t.is_next)
+    (subst (λ cs. Stands (at_batches table) (row_added cs table.next row origin)) own (added_stands table row origin s.valid t.fits t.valid t.new)) in
     let valid = valid-added table row origin s.valid t.fits t.valid (check_room table row origin t.new) in
-    let result = subst (λ (n : ℕ). IsValidTable (replayed (at_batches table) (row_added n row origin)).table) (sym t.is_next) valid in
-    let here : records ≡ store.records ++ record_bytes (row_added table.next row origin) = records_are ∙ ap (λ (n : ℕ). store.records ++ record_bytes (row_added n row origin)) t.is_next in
-    let long : compact_size (add_row table row origin) ≤ store.end + pending_length records = omega (arith, s.long, compact_added table row origin, longer store.records records (row_added table.next row origin) here) in
+    let result = subst (λ (n : ℕ). IsValidTable (replayed (at_batches table) (row_added columns n row origin)).table) (sym t.is_next) valid in
+    let here : records ≡ store.records ++ record_bytes (row_added table.columns table.next row origin) = records_are ∙ ap (λ (n : ℕ). store.records ++ record_bytes (row_added columns n row origin)) t.is_next
+    ∙ ap (λ cs. store.records ++ record_bytes (row_added cs table.next row origin)) (sym own) in
+    let long : compact_size (add_row table row origin) ≤ store.end + pending_length records = omega (arith, s.long, compact_added table row origin, longer store.records records (row_added table.columns table.next row origin) here) in
     let later : Stored _ = record store { records = records; rows = store.rows + 1; reserved = reserved } in
-    appended told store content (row_added number row origin) records store.ends (store.rows + 1) reserved s stands result
+    appended told store content (row_added columns number row origin) records store.ends (store.rows + 1) reserved s stands result
     (All-push (λ (r : StoredRow). r.owner ≡ None) table.rows (record { number = number; row = row; owner = None }) s.unowned refl) records_are (omega (arith, s.rows, length-append table.rows (record { number = number; row = row; owner = None } ∷ [])))
-    (subst (λ (n : ℕ). compact_size (replayed (at_batches table) (row_added n row origin)).table ≤ store.end + pending_length records) (sym t.is_next) long)
-    (λ progress is. subst (λ (n : ℕ). CopyStands told later (replayed (at_batches table) (row_added n row origin)).table progress) (sym t.is_next) (row_carried told store table progress (s.copy progress is) row origin records (store.rows + 1) reserved here))
+    (subst (λ (n : ℕ). compact_size (replayed (at_batches table) (row_added columns n row origin)).table ≤ store.end + pending_length records) (sym t.is_next) long)
+    (λ progress is. subst (λ (n : ℕ). CopyStands told later (replayed (at_batches table) (row_added columns n row origin)).table progress) (sym t.is_next) (row_carried told store table progress (s.copy progress is) row origin records (store.rows + 1) reserved here))
 
 pub end_appended : {D : Type 0} (told : D → Told) (store : Stored D) (content : Content) (number : ℕ) (records ends : List ℕ) (reserved : ℕ) → StandsFor told store content → HasRow content number
     → records ≡ store.records ++ record_bytes (row_ended number) → ends ≡ ends_with store.copy store.ends number → StandsFor told (record store { records = records; rows = store.rows - 1; reserved = reserved; ends = ends }) (with_change content (row_ended number))

@@ -32,37 +32,37 @@ use Rattle.q4_store.proofs.Weights.{one_mark_more, fewer}
 -- the store is longer by the change at least
 pub longer : (waiting records : List ℕ) (change : Record) → records ≡ waiting ++ record_bytes change → pending_length waiting + change_size change ≤ pending_length records
 longer waiting records change is =
-    let more = ap pending_length is ∙ pending_more waiting (record_bytes change) (some_bytes change.head (row_bytes change.row)) in
+    let more = ap pending_length is ∙ pending_more waiting (record_bytes change) (some_bytes change.head (row_bytes change.columns change.row)) in
     let cost = batch_size_more waiting (length (record_bytes change)) in
     omega (arith, more, cost, change_length change)
 
-marks_more : (table : TableState) (row : List Value) (origin : Option Origin) → 10 * length (add_row table row origin).marks + (9 + sum_by row_cost []) ≤ 10 * length table.marks + change_size (record { head = Insert table.next origin; row = [] })
+marks_more : (table : TableState) (row : List Value) (origin : Option Origin) → 10 * length (add_row table row origin).marks + (9 + sum_by (row_cost table.columns) []) ≤ 10 * length table.marks + change_size (record { head = Insert table.next origin; columns = []; row = [] })
 marks_more table row None = omega arith
 marks_more table row (Some origin) = omega (arith, one_mark_more origin.source origin.number table.marks)
 
-insert_size : (table : TableState) (row : List Value) (origin : Option Origin) → change_size (record { head = Insert table.next origin; row = row }) + 9 ≡ change_size (record { head = Insert table.next origin; row = [] }) + row_cost (record { number = table.next; row = row; owner = None })
+insert_size : (table : TableState) (row : List Value) (origin : Option Origin) → change_size (record { head = Insert table.next origin; columns = table.columns; row = row }) + 9 ≡ change_size (record { head = Insert table.next origin; columns = []; row = [] }) + row_cost table.columns (record { number = table.next; row = row; owner = None })
 insert_size table row None = omega arith
 insert_size table row (Some origin) = omega arith
 
 -- a row that is added comes to the rest
 copy_added : (cursor : ℕ) (table : TableState) (records : List Record) (row : List Value) (origin : Option Origin) → cursor ≤ table.next
-    → copy_length cursor (add_row table row origin) records ≤ copy_length cursor table records + change_size (record { head = Insert table.next origin; row = row })
+    → copy_length cursor (add_row table row origin) records ≤ copy_length cursor table records + change_size (record { head = Insert table.next origin; columns = table.columns; row = row })
 copy_added cursor table records row origin within =
     let new : StoredRow = record { number = table.next; row = row; owner = None } in
     let rows : rows_from cursor (table.rows ++ new ∷ []) ≡ rows_from cursor table.rows ++ new ∷ [] = filter-append (is_from cursor) table.rows (new ∷ []) ∙ ap (λ qs. rows_from cursor table.rows ++ qs) (cond-true _ (new ∷ []) [] (le-leb cursor table.next within)) in
-    omega (arith, ap (sum_by row_cost) rows, sum_by-append row_cost (rows_from cursor table.rows) (new ∷ []), sum_by-cons row_cost new [], marks_more table row origin, insert_size table row origin)
+    omega (arith, ap (sum_by (row_cost table.columns)) rows, sum_by-append (row_cost table.columns) (rows_from cursor table.rows) (new ∷ []), sum_by-cons (row_cost table.columns) new [], marks_more table row origin, insert_size table row origin)
 
 -- one that is removed leaves it, or is none of it
 copy_removed : (cursor : ℕ) (table : TableState) (records : List Record) (number : ℕ) → copy_length cursor (record table { rows = without_row number table.rows }) records ≤ copy_length cursor table records
 copy_removed cursor table records number =
     let rows : rows_from cursor (without_row number table.rows) ≡ without_row number (rows_from cursor table.rows) = filters_swap (is_from cursor) (λ r. not (eqb r.number number)) table.rows in
-    omega (arith, ap (sum_by row_cost) rows, fewer number (rows_from cursor table.rows))
+    omega (arith, ap (sum_by (row_cost table.columns)) rows, fewer table.columns number (rows_from cursor table.rows))
 
 nothing_there : (number : ℕ) (rows : List StoredRow) → rows ≡ [] → IsThere rows number → ⊥
 nothing_there number rows none there = let wrong = subst (λ qs. IsThere qs number) none there in absurd (cc wrong)
 
 module _ {D : Type 0} (told : D → Told) (store : Stored D) (table : TableState) (progress : Progress) (c : CopyStands told store table progress) where
-  pub row_carried : (row : List Value) (origin : Option Origin) (records : List ℕ) (rows reserved : ℕ) → records ≡ store.records ++ record_bytes (row_added table.next row origin)
+  pub row_carried : (row : List Value) (origin : Option Origin) (records : List ℕ) (rows reserved : ℕ) → records ≡ store.records ++ record_bytes (row_added table.columns table.next row origin)
       → CopyStands told (record store { records = records; rows = rows; reserved = reserved }) (add_row table row origin) progress
   row_carried row origin records rows reserved is = record {
     written = c.written;
@@ -71,7 +71,7 @@ module _ {D : Type 0} (told : D → Told) (store : Stored D) (table : TableState
     first = c.first;
     ends = c.ends;
     at = c.at;
-    fits = omega (arith, c.fits, copy_added progress.cursor table (c.written ++ c.waiting) row origin c.copied.within, longer store.records records (row_added table.next row origin) is);
+    fits = omega (arith, c.fits, copy_added progress.cursor table (c.written ++ c.waiting) row origin c.copied.within, longer store.records records (row_added table.columns table.next row origin) is);
     shut = c.shut;
     limit = c.limit;
     bytes = c.bytes;
@@ -129,6 +129,7 @@ pub kept_stands : {D : Type 0} (told : D → Told) (store : Stored D) (content :
 kept_stands told store content records ends reserved s same_records same_ends =
     let here : StandsFor told (record store { reserved = reserved }) content = record {
       columns = s.columns;
+      own = s.own;
       valid = s.valid;
       unowned = s.unowned;
       stand = s.stand;

@@ -2,6 +2,7 @@
 use Rattle.std.proofs.Common.{◌≡◌, ◌≤◌, ◌+◌, ◌⊎◌, inl, inr, ℕ, List, [], ◌∷◌, Option, length, ◌∙◌, ap, subst, arith}
 use Rattle.std.proofs.lemmas.List.{take-append-le}
 use Rattle.std.proofs.lemmas.List.Sums.{fold_push}
+use Rattle.q4_value.specs.declared.column.Column.{Column}
 use Rattle.q4_value.specs.declared.row.Value.{Value}
 use Rattle.q4_table.specs.declared.origin.Origin.{Origin}
 use Rattle.q4_table.specs.TableState.{TableState}
@@ -18,9 +19,9 @@ use Rattle.q4_store.specs.Content.{Content, row_added, row_ended, table_of, tabl
 more : (content : Content) (change : Record) → table_of (with_change content change) ≡ table_after (table_of content) change.head change.row
 more content change = ap (λ (replay : Replay). replay.table) (fold_push replayed (at_batches content.committed) content.pending change)
 
-pub added_is : (content : Content) (number : ℕ) (row : List Value) (origin : Option Origin) → number ≡ (table_of content).next → table_of (with_change content (row_added number row origin)) ≡ add_row (table_of content) row origin
-added_is content number row origin is_next =
-    more content (row_added number row origin) ∙ ap (λ (n : ℕ). add_row (record (table_of content) { next = n }) row origin) is_next
+pub added_is : (content : Content) (columns : List Column) (number : ℕ) (row : List Value) (origin : Option Origin) → number ≡ (table_of content).next → table_of (with_change content (row_added columns number row origin)) ≡ add_row (table_of content) row origin
+added_is content columns number row origin is_next =
+    more content (row_added columns number row origin) ∙ ap (λ (n : ℕ). add_row (record (table_of content) { next = n }) row origin) is_next
 
 pub ended_is : (content : Content) (number : ℕ) → table_of (with_change content (row_ended number)) ≡ record (table_of content) { rows = without_row number (table_of content).rows }
 ended_is content number = more content (row_ended number)

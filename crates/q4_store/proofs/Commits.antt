@@ -14,7 +14,7 @@ use Rattle.q4_disk.specs.Told.{Sides, Told}
 use Rattle.q4_disk.specs.Images.{on, other, size, Within}
 use Rattle.q4_disk.specs.Time.{LeavesOnly, OtherStays}
 use Rattle.q4_disk.proofs.Moments.{weaker, left_now}
-use Rattle.q4_store.specs.Reading.{HasMagic}
+use Rattle.q4_record.specs.Side.{HasMagic}
 use Rattle.q4_store.specs.Parts.{IsShut, IsSpare, IsReady}
 use Rattle.q4_store.specs.Commit.{sealed, EndsBehind, IsOpenBehind, MayHaveBatch, grown}
 use Rattle.q4_store.specs.Copied.{HasCopied}
@@ -33,7 +33,7 @@ some_bytes (Next number) more = λ none. absurd (cc none)
 
 pub no_change : (changes : List Record) → records_bytes changes ≡ [] → changes ≡ []
 no_change [] none = refl
-no_change (r ∷ rs) none = absurd (some_bytes r.head (row_bytes r.row ++ records_bytes rs) (sym (append_assoc (head_bytes r.head) (row_bytes r.row) (records_bytes rs)) ∙ none))
+no_change (r ∷ rs) none = absurd (some_bytes r.head (row_bytes r.columns r.row ++ records_bytes rs) (sym (append_assoc (head_bytes r.head) (row_bytes r.columns r.row) (records_bytes rs)) ∙ none))
 
 -- where no bytes wait all is committed
 pub nothing_waits : (content : Content) → records_bytes content.pending ≡ [] → content ≡ all_committed content
@@ -91,6 +91,7 @@ pub stands_open : {D : Type 0} (told : D → Told) (store : Stored D) (content :
     → (IsTrue (told store.disk).honest → OtherStays store.side (told store.disk) (told new)) → store.failed ≡ false → (IsTrue (told store.disk).honest → on (other store.side) (told new).bytes ≡ on (other store.side) (told store.disk).bytes) → StandsFor told (record store { disk = new; failed = true }) content
 stands_open told store content new s same counts run stays whole there = record {
   columns = s.columns;
+  own = s.own;
   valid = s.valid;
   unowned = s.unowned;
   stand = s.stand;
@@ -123,6 +124,7 @@ pub stands_done : {D : Type 0} (told : D → Told) (store : Stored D) (content :
     → StandsFor told (record store { disk = new; end = end; records = records; reserved = 0; failed = false }) (all_committed content)
 stands_done told store content new end records s same settled stays whole none end_is there = record {
   columns = subst AreColumns (sym (columns_stay (at_batches content.committed) content.pending)) s.columns;
+  own = s.own ∙ sym (columns_stay (at_batches content.committed) content.pending);
   valid = s.valid;
   unowned = s.unowned;
   stand = tt;

@@ -77,21 +77,21 @@ below_within table cursor valid le =
     passes_none (part_below cursor table) [] (record { rows = omega (arith, few.0, count); bytes = omega (arith, few.1, bytes); next = omega (arith, le, limit); short = refl; size = omega arith })
 
 pub copy_ended_below : (table : TableState) (cursor number : ℕ) (records : List Record) → IsValidTable table → number < cursor → IsThere table.rows number → IsCopied table cursor records
-    → IsCopied (record table { rows = without_row number table.rows }) cursor (records ++ record { head = End number; row = [] } ∷ [])
+    → IsCopied (record table { rows = without_row number table.rows }) cursor (records ++ record { head = End number; columns = []; row = [] } ∷ [])
 copy_ended_below table cursor number records valid lt there is =
     let limit = valid.limit in
-    let one : Stands (record { stage = stage.Rows; table = part_below cursor table }) (record { head = End number; row = [] }) = record {
-      is = record { head = omega (arith, lt, is.within, limit); row = record { kinds = refl; values = All-nil IsWideValue } };
+    let one : Stands (record { stage = stage.Rows; table = part_below cursor table }) (record { head = End number; columns = []; row = [] }) = record {
+      is = record { head = omega (arith, lt, is.within, limit); columns_are = refl; row = record { taken = tt; values = All-nil IsWideValue } };
       may = there_below number cursor table.rows lt there;
       within = ended_within (part_below cursor table) number (below_within table cursor valid is.within);
     } in
-    copied_more table cursor (record table { rows = without_row number table.rows }) cursor records (record { head = End number; row = [] } ∷ []) is refl is.within (one, tt)
+    copied_more table cursor (record table { rows = without_row number table.rows }) cursor records (record { head = End number; columns = []; row = [] } ∷ []) is refl is.within (one, tt)
     (ap (λ rows. record { stage = stage.Rows; table = table_of table.columns cursor rows [] }) (filters_swap (λ r. not (eqb r.number number)) (is_below cursor) table.rows))
 
 -- ## Rows that are copied
 
 -- they lead to a table with all of them, and their cursor
-rows_lead : (columns : List Column) (next : ℕ) (front rows : List StoredRow) → replays (record { stage = stage.Rows; table = table_of columns next front [] }) (map row_record rows) ≡ record { stage = stage.Rows; table = table_of columns (cursor_after next rows) (front ++ map plain rows) [] }
+rows_lead : (columns : List Column) (next : ℕ) (front rows : List StoredRow) → replays (record { stage = stage.Rows; table = table_of columns next front [] }) (map (row_record columns) rows) ≡ record { stage = stage.Rows; table = table_of columns (cursor_after next rows) (front ++ map plain rows) [] }
 rows_lead columns next front [] = ap (λ rs. record { stage = stage.Rows; table = table_of columns next rs [] }) (sym (append-nil front))
 rows_lead columns next front (r ∷ rs) =
     rows_lead columns (r.number + 1) (front ++ plain r ∷ []) rs
@@ -136,17 +136,17 @@ module _ (table : TableState) (cursor n : ℕ) (records : List Record) (valid : 
   taken_bytes : bytes_of (front ++ taken n cursor table) ≤ bytes_limit
   taken_bytes = let bytes = valid.bytes in omega (arith, bytes, ap bytes_of whole, sum_by-append size (front ++ taken n cursor table) left)
 
-  pub piece_stands : AllStand (record { stage = stage.Rows; table = part_below cursor table }) (map row_record (taken n cursor table))
+  pub piece_stands : AllStand (record { stage = stage.Rows; table = part_below cursor table }) (map (row_record table.columns) (taken n cursor table))
   piece_stands = (rows_stand table.columns cursor table.next (cursor - 1) front (taken n cursor table) taken_fit taken_rise (omega arith) is.within valid.limit taken_count taken_bytes).stand
 
-  pub piece_leads : replays (record { stage = stage.Rows; table = part_below cursor table }) (map row_record (taken n cursor table)) ≡ record { stage = stage.Rows; table = part_below (cursor_after cursor (taken n cursor table)) table }
+  pub piece_leads : replays (record { stage = stage.Rows; table = part_below cursor table }) (map (row_record table.columns) (taken n cursor table)) ≡ record { stage = stage.Rows; table = part_below (cursor_after cursor (taken n cursor table)) table }
   piece_leads =
       rows_lead table.columns cursor front (taken n cursor table)
       ∙ ap (λ qs. record { stage = stage.Rows; table = table_of table.columns (cursor_after cursor (taken n cursor table)) (front ++ qs) [] }) (plain_same (taken n cursor table) taken_unowned)
       ∙ ap (λ qs. record { stage = stage.Rows; table = table_of table.columns (cursor_after cursor (taken n cursor table)) qs [] }) (sym (below_after 0 table.next cursor n table.rows valid.numbers))
 
-  pub piece_copied : IsCopied table (cursor_after cursor (taken n cursor table)) (records ++ map row_record (taken n cursor table))
-  piece_copied = copied_more table cursor table (cursor_after cursor (taken n cursor table)) records (map row_record (taken n cursor table)) is refl
+  pub piece_copied : IsCopied table (cursor_after cursor (taken n cursor table)) (records ++ map (row_record table.columns) (taken n cursor table))
+  piece_copied = copied_more table cursor table (cursor_after cursor (taken n cursor table)) records (map (row_record table.columns) (taken n cursor table)) is refl
       (stays_within 0 table.next cursor n (rows_from cursor table.rows) (from_rises 0 table.next cursor table.rows valid.numbers) is.within) piece_stands piece_leads
 
 -- ## The end of a copy
@@ -161,7 +161,7 @@ base_ends table after after_le valid =
     let ms = marks_stand columns after table.rows stage.Rows [] table.marks (table_within table after valid (omega (arith, after_le, limit)) []) valid.marks.each valid.marks.rise tt (no_marks_below table.marks) in
     let end : AllStand (record { stage = ms.last; table = table_of columns after table.rows table.marks }) (next_record table.next ∷ []) = (
       record {
-        is = record { head = omega (arith, limit); row = record { kinds = refl; values = All-nil IsWideValue } };
+        is = record { head = omega (arith, limit); columns_are = refl; row = record { taken = tt; values = All-nil IsWideValue } };
         may = may_next ms.last (table_of columns after table.rows table.marks) table.next ms.may_end after_le;
         within = table_within table table.next valid limit table.marks;
       },
@@ -179,21 +179,21 @@ copy_finished table cursor records valid unowned is =
     let all : take n rows ≡ rows = take_all n rows (omega arith) in
     let after = cursor_after cursor rows in
     let front = rows_below cursor table.rows in
-    let stand : AllStand (record { stage = stage.Rows; table = part_below cursor table }) (map row_record rows) = subst (λ qs. AllStand (record { stage = stage.Rows; table = part_below cursor table }) (map row_record qs)) all (piece_stands table cursor n records valid unowned is) in
-    let leads : replays (record { stage = stage.Rows; table = part_below cursor table }) (map row_record rows) ≡ record { stage = stage.Rows; table = table_of columns after table.rows [] } =
+    let stand : AllStand (record { stage = stage.Rows; table = part_below cursor table }) (map (row_record table.columns) rows) = subst (λ qs. AllStand (record { stage = stage.Rows; table = part_below cursor table }) (map (row_record table.columns) qs)) all (piece_stands table cursor n records valid unowned is) in
+    let leads : replays (record { stage = stage.Rows; table = part_below cursor table }) (map (row_record table.columns) rows) ≡ record { stage = stage.Rows; table = table_of columns after table.rows [] } =
     rows_lead columns cursor front rows
     ∙ ap (λ qs. record { stage = stage.Rows; table = table_of columns after (front ++ qs) [] }) (plain_same rows (All-filter (is_from cursor) (λ (r : StoredRow). r.owner ≡ None) table.rows unowned))
     ∙ ap (λ qs. record { stage = stage.Rows; table = table_of columns after qs [] }) (parted 0 table.next cursor table.rows valid.numbers) in
     let after_le : after ≤ table.next = subst (λ qs. cursor_after cursor qs ≤ table.next) all (stays_within 0 table.next cursor n rows (from_rises 0 table.next cursor table.rows valid.numbers) is.within) in
     let ends = base_ends table after after_le valid in
     let tail = map mark_record table.marks ++ next_record table.next ∷ [] in
-    let rest_stand : AllStand (record { stage = stage.Rows; table = part_below cursor table }) (map row_record rows ++ tail) =
-    stand_append (record { stage = stage.Rows; table = part_below cursor table }) (map row_record rows) tail stand (subst (λ q. AllStand q tail) (sym leads) ends.0) in
+    let rest_stand : AllStand (record { stage = stage.Rows; table = part_below cursor table }) (map (row_record table.columns) rows ++ tail) =
+    stand_append (record { stage = stage.Rows; table = part_below cursor table }) (map (row_record table.columns) rows) tail stand (subst (λ q. AllStand q tail) (sym leads) ends.0) in
     record {
-      stand = stand_append (at_base columns) records (map row_record rows ++ tail) is.stand (subst (λ q. AllStand q (map row_record rows ++ tail)) (sym is.leads) rest_stand);
-      leads = fold-append replayed (at_base columns) records (map row_record rows ++ tail)
-          ∙ ap (λ q. replays q (map row_record rows ++ tail)) is.leads
-          ∙ fold-append replayed (record { stage = stage.Rows; table = part_below cursor table }) (map row_record rows) tail
+      stand = stand_append (at_base columns) records (map (row_record table.columns) rows ++ tail) is.stand (subst (λ q. AllStand q (map (row_record table.columns) rows ++ tail)) (sym is.leads) rest_stand);
+      leads = fold-append replayed (at_base columns) records (map (row_record table.columns) rows ++ tail)
+          ∙ ap (λ q. replays q (map (row_record table.columns) rows ++ tail)) is.leads
+          ∙ fold-append replayed (record { stage = stage.Rows; table = part_below cursor table }) (map (row_record table.columns) rows) tail
           ∙ ap (λ q. replays q tail) leads
           ∙ ends.1;
     }

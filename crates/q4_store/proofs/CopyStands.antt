@@ -65,6 +65,7 @@ module _ {D : Type 0} (told : D → Told) (store : Stored D) (content : Content)
       → ForSome copy (CopyStands told (record store { disk = new; known = known; copy = copy; ends = ends }) (table_of content)) → StandsFor told (record store { disk = new; known = known; copy = copy; ends = ends }) content
   stands_beside known copy ends read reads stays ready copied = record {
     columns = s.columns;
+    own = s.own;
     valid = s.valid;
     unowned = s.unowned;
     stand = s.stand;
@@ -83,7 +84,7 @@ module _ {D : Type 0} (told : D → Told) (store : Stored D) (content : Content)
   begun_stands known ends known_is none limit blank progress is =
       let table = table_of content in
       let all : rows_from 1 table.rows ≡ table.rows = all_from 1 table.rows (rise_from 0 table.next 1 table.rows s.valid.numbers (omega arith)) in
-      let size = ap (sum_by row_cost) all in
+      let size = ap (sum_by (row_cost table.columns)) all in
       subst (CopyStands told (record store { disk = new; known = known; copy = Some (record { cursor = 1; at = base_at }); ends = ends }) table) (some_same (record { cursor = 1; at = base_at }) progress is) (record {
         written = [];
         waiting = [];

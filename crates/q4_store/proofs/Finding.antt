@@ -16,7 +16,8 @@ use Rattle.q4_disk.specs.Images.{on, other}
 use Rattle.q4_disk.proofs.Moments.{weaker, then_only}
 use Rattle.q4_store.specs.declared.fault.OpenFault.{OpenFault}
 use Rattle.q4_store.specs.declared.fault.OpenFault.TheVariants as fault
-use Rattle.q4_store.specs.Reading.{HasMagic, IsBehind, IsCurrent}
+use Rattle.q4_record.specs.Side.{HasMagic}
+use Rattle.q4_store.specs.Reading.{IsBehind, IsCurrent}
 use Rattle.q4_store.specs.Store.{IsSettled}
 use Rattle.q4_store.specs.Opening.{CountsOpen, OpenFails}
 use Rattle.q4_store.specs.Looking.{AddsNone, OnlyReads, IsStill, IsNoChoice, LoadFails, IsDraft, draft_length}

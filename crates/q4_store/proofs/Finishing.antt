@@ -10,6 +10,7 @@ use Rattle.q4_table.specs.declared.marks.Mark as marks
 use Rattle.q4_table.specs.TableState.{TableState}
 use Rattle.q4_record.specs.Record.{Record, record_bytes, records_bytes}
 use Rattle.q4_record.specs.Schema.{schema_bytes}
+use Rattle.q4_record.specs.declared.header.Format.TheVariants.{Second}
 use Rattle.q4_record.specs.Side.{base_at, side_limit, generation_limit, generation_of, IsBase, HasRoom, Side as IsSide}
 use Rattle.q4_record.specs.Written.{row_record, mark_record, next_record, side_bytes}
 use Rattle.q4_record.proofs.WrittenSides.{base_side}
@@ -20,7 +21,8 @@ use Rattle.q4_disk.specs.Images.{on, other, written, Within}
 use Rattle.q4_disk.specs.Time.{LeavesOnly, OtherStays}
 use Rattle.q4_disk.proofs.Ranges.{written_at}
 use Rattle.q4_store.specs.declared.copying.Progress.{Progress}
-use Rattle.q4_store.specs.Reading.{HasMagic, IsBehind, Reads, ReadsAs}
+use Rattle.q4_record.specs.Side.{HasMagic}
+use Rattle.q4_store.specs.Reading.{IsBehind, Reads, ReadsAs}
 use Rattle.q4_store.specs.Parts.{IsShut, IsReady, IsFilled, opened}
 use Rattle.q4_store.specs.Looking.{header_bytes}
 use Rattle.q4_store.specs.Content.{Content, table_of, all_committed, IsPrefixOrNew}
@@ -54,19 +56,19 @@ marks_length [] = refl
 marks_length (m ∷ ms) = omega (arith, ap length (flat_map-cons record_bytes (mark_record m) (map mark_record ms)), length-append (record_bytes (mark_record m)) (records_bytes (map mark_record ms)), marks_length ms)
 
 -- how long the rest is
-pub rest_length : (cursor : ℕ) (table : TableState) → length (records_bytes (rest_records cursor table)) ≡ sum_by row_cost (rows_from cursor table.rows) + 10 * length table.marks + 9
+pub rest_length : (cursor : ℕ) (table : TableState) → length (records_bytes (rest_records cursor table)) ≡ sum_by (row_cost table.columns) (rows_from cursor table.rows) + 10 * length table.marks + 9
 rest_length cursor table =
-    let rows = map row_record (rows_from cursor table.rows) in
+    let rows = map (row_record table.columns) (rows_from cursor table.rows) in
     let ms = map mark_record table.marks in
     let next = next_record table.next ∷ [] in
-    omega (arith, ap length (flat_map-append record_bytes rows (ms ++ next)), length-append (records_bytes rows) (records_bytes (ms ++ next)), ap length (flat_map-append record_bytes ms next), length-append (records_bytes ms) (records_bytes next), rows_length (rows_from cursor table.rows), marks_length table.marks)
+    omega (arith, ap length (flat_map-append record_bytes rows (ms ++ next)), length-append (records_bytes rows) (records_bytes (ms ++ next)), ap length (flat_map-append record_bytes ms next), length-append (records_bytes ms) (records_bytes next), rows_length table.columns (rows_from cursor table.rows), marks_length table.marks)
 
 some_bytes : (columns : List Column) (records : List Record) (r : Record) (rs : List Record) → records ≡ r ∷ rs → copy_bytes columns records ≡ schema_bytes columns ++ records_bytes records
 some_bytes columns records r rs is = ap (copy_bytes columns) is ∙ ap (λ qs. schema_bytes columns ++ records_bytes qs) (sym is)
 
 -- records in front of the rest are some
 all_some : (columns : List Column) (front : List Record) (cursor : ℕ) (table : TableState) → copy_bytes columns (front ++ rest_records cursor table) ≡ schema_bytes columns ++ records_bytes (front ++ rest_records cursor table)
-all_some columns [] cursor table = rest_some (map row_record (rows_from cursor table.rows)) (map mark_record table.marks)
+all_some columns [] cursor table = rest_some (map (row_record table.columns) (rows_from cursor table.rows)) (map mark_record table.marks)
   where
     last_some : (ms : List Record) → copy_bytes columns (ms ++ next_record table.next ∷ []) ≡ schema_bytes columns ++ records_bytes (ms ++ next_record table.next ∷ [])
     last_some [] = refl
@@ -83,7 +85,7 @@ pub base_read : (table : TableState) (records : List Record) (generation : ℕ) 
     → IsSide table.columns (side_bytes generation (schema_bytes table.columns ++ records_bytes records) (0 ∷ [])) table generation (base_at + length (schema_bytes table.columns ++ records_bytes records) + 1)
 base_read table records generation f positive limit few room =
     let base = schema_bytes table.columns ++ records_bytes records in
-    let is_base : IsBase table.columns base table = record { records = records; base_is = refl; stand = f.stand; replay_is = f.leads } in
+    let is_base : IsBase Second table.columns base table = record { may = λ i d lt. tt; records = records; base_is = refl; stand = f.stand; replay_is = f.leads } in
     let len : base_at + length base + 0 + 1 ≡ base_at + length base + 1 = omega arith in
     subst (λ (n : ℕ). IsSide table.columns (side_bytes generation base (0 ∷ [])) table generation n) len
     (base_side table.columns base table generation [] 0 [] is_base positive limit tt (omega arith) few (subst (λ (n : ℕ). HasRoom table n) (sym len) room))
@@ -220,9 +222,10 @@ module _ {D : Type 0} (told : D → Told) (store : Stored D) (content : Content)
       spare_then store.side store.generation c (settled_holds new (other store.side) the_table (store.generation + 1) end settled c left) stands.stands.reaches.begins.header.magic (sym stands.stands.generation_is)
 
   pub stands_finished : (new : D) (records ends : List ℕ) → (told new).honest ≡ old.honest → records ≡ [] → (IsTrue old.honest → IsSettled (told new) (other store.side) the_table (store.generation + 1) end) → (IsTrue old.honest → OtherStays (other store.side) old (told new))
-      → StandsFor told (record { disk = new; side = other store.side; end = end; generation = store.generation + 1; records = records; rows = store.rows; reserved = 0; known = false; failed = false; copy = None; ends = ends }) (all_committed content)
+      → StandsFor told (record { disk = new; columns = store.columns; side = other store.side; end = end; generation = store.generation + 1; records = records; rows = store.rows; reserved = 0; known = false; failed = false; copy = None; ends = ends }) (all_committed content)
   stands_finished new records ends same none settled stays = record {
     columns = subst AreColumns (sym columns_are) s.columns;
+    own = s.own ∙ sym columns_are;
     valid = s.valid;
     unowned = s.unowned;
     stand = tt;

@@ -10,6 +10,7 @@ use Rattle.q4_store.specs.declared.head.Head.{Head}
 use Rattle.q4_store.specs.declared.head.Head.TheVariants as head
 use Rattle.q4_store.specs.Looking.{IsHead, LoadFails}
 use Rattle.q4_store.proofs.Fronts.{told_front, gate_front, magic_front}
+use Rattle.q4_store.proofs.Idle.{has_magic}
 
 -- what is read of a side from its front on
 pub read_front : (side before after : List ℕ) (n most : ℕ) → length before ≡ most → n ≡ min (length before) (length side - 0) → after ≡ take n (drop 0 side) ++ drop n before → take n after ≡ take most side
@@ -21,7 +22,7 @@ read_front side before after n most len n_is after_is =
 more_told : (front more : List ℕ) (h : Head) → base_at ≤ length front → IsHead front h → IsHead (front ++ more) h
 more_told front more (head.Open magic generation) long is = (
   record { header = omega (arith, long, length-append front more); gate = gate_front front more (omega (arith, long)) ∙ is.0.gate },
-  ((λ t. magic_front front more (omega (arith, long)) ∙ is.1.0 t), (λ m. is.1.1 (sym (magic_front front more (omega (arith, long))) ∙ m))),
+  ((λ t. has_magic front (front ++ more) (sym (magic_front front more (omega (arith, long)))) (is.1.0 t)), (λ m. is.1.1 (has_magic (front ++ more) front (magic_front front more (omega (arith, long))) m))),
   is.2 ∙ sym (told_front 5 front more (omega (arith, long))),
 )
 more_told front more head.Shut long is = record { gate = is.gate; rest = is.rest ++ more; closed = is.closed; is = ap (λ (l : List ℕ). l ++ more) is.is }

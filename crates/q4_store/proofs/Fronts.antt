@@ -1,5 +1,5 @@
 -- A side up to its closing gate: what stays of it whatever comes behind, and what a batch makes of it.
-use Rattle.std.proofs.Common.{◌≡◌, ◌≢◌, ℕ, ◌+◌, ◌≤◌, List, [], ◌∷◌, ◌++◌, length, take, drop, codes, refl, sym, ◌∙◌, ap, subst, arith, append_assoc, length-append}
+use Rattle.std.proofs.Common.{◌≡◌, ◌≢◌, ◌⊎◌, ℕ, ◌+◌, ◌≤◌, List, [], ◌∷◌, ◌++◌, length, take, drop, codes, refl, sym, ◌∙◌, ap, subst, arith, append_assoc, length-append}
 use Rattle.std.specs.Int.{w64, from_be_bytes}
 use Rattle.std.proofs.lemmas.List.{take-append-le, drop-append-le, take-append-drop, drop_at, length-take, length-drop, flat_map_more}
 use Rattle.std.proofs.lemmas.List.Sums.{fold_push}
@@ -11,18 +11,19 @@ use Rattle.q4_record.specs.declared.replay.Replay.{Replay}
 use Rattle.q4_record.specs.declared.replay.Stage.TheVariants as stage
 use Rattle.q4_record.specs.Record.{Record}
 use Rattle.q4_record.specs.Replay.{replayed, replays, at_batches, MayCome, stage_after, AllStand, Stands}
-use Rattle.q4_record.specs.Side.{side_limit, generation_limit, base_at, gate_of, magic_of, told_at, generation_of, base_length_of, base_of, behind_base, batch_bytes, batches_bytes, BatchesStand, after_batches, IsBase, HasRoom, Side as IsSide}
+use Rattle.q4_store.proofs.Idle.{has_magic}
+use Rattle.q4_record.specs.Side.{side_limit, generation_limit, base_at, gate_of, magic_of, HasMagic, format_of, told_at, generation_of, base_length_of, base_of, behind_base, batch_bytes, batches_bytes, BatchesStand, after_batches, IsBase, HasRoom, Side as IsSide}
 
 -- all parts of a side up to its closing gate
 pub record IsFront (columns : List Column) (front : List ℕ) (table : TableState) (generation : ℕ) : Type 0 where
   pub long : base_at + base_length_of front ≤ length front
   pub gate : gate_of front ≡ 1
-  pub magic : magic_of front ≡ codes "Q4O1"
+  pub magic : HasMagic front
   pub positive : 1 ≤ generation_of front
   pub limit : generation_of front ≤ generation_limit
   pub generation_is : generation ≡ generation_of front
   pub base_table : TableState
-  pub base : IsBase columns (base_of front) base_table
+  pub base : IsBase (format_of front) columns (base_of front) base_table
   pub batches : List (List Record)
   pub behind : behind_base front ≡ batches_bytes batches
   pub stand : BatchesStand (at_batches base_table) batches
@@ -44,6 +45,15 @@ pub magic_front : (front more : List ℕ) → 5 ≤ length front → magic_of (f
 magic_front front more long =
     let l : 4 ≤ length (drop 1 front) = omega (arith, long, length-drop 1 front) in
     ap (take 4) (drop-append-le 1 front more (omega (arith, long))) ∙ take-append-le 4 (drop 1 front) more l
+
+-- so is the format that the magic tells
+format_front : (front more : List ℕ) → 5 ≤ length front → format_of (front ++ more) ≡ format_of front
+format_front [] more long = absurd (omega (arith, long))
+format_front (a ∷ []) more long = absurd (omega (arith, long))
+format_front (a ∷ b ∷ []) more long = absurd (omega (arith, long))
+format_front (a ∷ b ∷ c ∷ []) more long = absurd (omega (arith, long))
+format_front (a ∷ b ∷ c ∷ d ∷ []) more long = absurd (omega (arith, long))
+format_front (a ∷ b ∷ c ∷ d ∷ e ∷ rest) more long = refl
 
 base_front : (front more : List ℕ) → base_at + base_length_of front ≤ length front → base_of (front ++ more) ≡ base_of front
 base_front front more within =
@@ -78,11 +88,11 @@ side_of columns front table generation gate tail f closed few room =
           begins = record {
             is_open = record { header = omega (arith, within, size); gate = gate_front front more (omega (arith, within)) ∙ f.gate };
             few = few;
-            header = record { magic = magic_front front more (omega (arith, within)) ∙ f.magic; positive = subst (λ (n : ℕ). 1 ≤ n) (sym generation_same) f.positive; within = omega (arith, within, size, length_same) };
+            header = record { magic = has_magic front (front ++ more) (sym (magic_front front more (omega (arith, within)))) f.magic; positive = subst (λ (n : ℕ). 1 ≤ n) (sym generation_same) f.positive; within = omega (arith, within, size, length_same) };
             generation = subst (λ (n : ℕ). n ≤ generation_limit) (sym generation_same) f.limit;
           };
           base_table = f.base_table;
-          base = subst (λ (bytes : List ℕ). IsBase columns bytes f.base_table) (sym (base_front front more within)) f.base;
+          base = subst (λ (bytes : List ℕ). IsBase (format_of (front ++ more)) columns bytes f.base_table) (sym (base_front front more within)) (subst (λ format. IsBase format columns (base_of front) f.base_table) (sym (format_front front more (omega (arith, within)))) f.base);
           behind = behind_front front more within ∙ ap (λ (l : List ℕ). l ++ more) f.behind;
           stand = f.stand;
           replay_is = sym f.leads;
@@ -136,12 +146,12 @@ more_front columns front table generation rs f all =
     record {
       long = omega (arith, within, size, length_same);
       gate = gate_front front more (omega (arith, within)) ∙ f.gate;
-      magic = magic_front front more (omega (arith, within)) ∙ f.magic;
+      magic = has_magic front (front ++ more) (sym (magic_front front more (omega (arith, within)))) f.magic;
       positive = subst (λ (n : ℕ). 1 ≤ n) (sym generation_same) f.positive;
       limit = subst (λ (n : ℕ). n ≤ generation_limit) (sym generation_same) f.limit;
       generation_is = f.generation_is ∙ sym generation_same;
       base_table = f.base_table;
-      base = subst (λ (bytes : List ℕ). IsBase columns bytes f.base_table) (sym (base_front front more within)) f.base;
+      base = subst (λ (bytes : List ℕ). IsBase (format_of (front ++ more)) columns bytes f.base_table) (sym (base_front front more within)) (subst (λ format. IsBase format columns (base_of front) f.base_table) (sym (format_front front more (omega (arith, within)))) f.base);
       batches = f.batches ++ rs ∷ [];
       behind = behind_front front more within ∙ ap (λ (l : List ℕ). l ++ more) f.behind ∙ flat_map_more batch_bytes [] f.batches rs;
       stand = batches_push (at_batches f.base_table) f.batches rs f.stand (subst (λ replay. AllStand replay rs) (sym f.leads) all);
@@ -183,12 +193,12 @@ parted columns bytes table generation len side =
       is_front = record {
         long = long;
         gate = sym (gate_front front more (omega (arith, size))) ∙ sym (ap gate_of is) ∙ r.begins.is_open.gate;
-        magic = sym (magic_front front more (omega (arith, size))) ∙ sym (ap magic_of is) ∙ header.magic;
+        magic = has_magic bytes front (ap magic_of is ∙ magic_front front more (omega (arith, size))) header.magic;
         positive = subst (λ (k : ℕ). 1 ≤ k) generation_same header.positive;
         limit = subst (λ (k : ℕ). k ≤ generation_limit) generation_same r.begins.generation;
         generation_is = w.generation_is ∙ generation_same;
         base_table = r.base_table;
-        base = subst (λ (l : List ℕ). IsBase columns l r.base_table) (ap base_of is ∙ base_front front more long) r.base;
+        base = subst (λ (l : List ℕ). IsBase (format_of front) columns l r.base_table) (ap base_of is ∙ base_front front more long) (subst (λ format. IsBase format columns (base_of bytes) r.base_table) (ap format_of is ∙ format_front front more (omega (arith, size))) r.base);
         batches = w.batches;
         behind = ap (λ (k : ℕ). drop (base_at + k) front) (sym length_same) ∙ drop_at head (batches_bytes w.batches) n head_length;
         stand = r.stand;

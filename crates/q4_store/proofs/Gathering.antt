@@ -24,14 +24,14 @@ piece_some true columns ends (r ∷ rows) ms last = refl
 pub all_taken : (cursor : ℕ) (table : TableState) (n : ℕ) → n ≡ length table.rows → taken n cursor table ≡ rows_from cursor table.rows
 all_taken cursor table n is = take_all n (rows_from cursor table.rows) (omega (arith, is, length-filter_both (is_from cursor) (λ (r : StoredRow). not (is_from cursor r)) (λ r. refl) table.rows))
 
-pub gathered_rest : (bare : Bool) (columns : List Column) (cursor : ℕ) (table : TableState) (n : ℕ) (ends b0 b1 b2 b3 b4 b5 : List ℕ) → n ≡ length table.rows → b0 ≡ cond bare (schema_bytes columns) [] → b1 ≡ b0 ++ ends → b2 ≡ b1 ++ records_bytes (map row_record (taken n cursor table))
-    → b3 ≡ b2 ++ records_bytes (map mark_record table.marks) → b4 ≡ b3 ++ record_bytes (record { head = head.Next table.next; row = [] }) → b5 ≡ b4 ++ 0 ∷ [] → b5 ≡ piece_bytes bare columns ends (rest_records cursor table) ++ 0 ∷ []
+pub gathered_rest : (bare : Bool) (columns : List Column) (cursor : ℕ) (table : TableState) (n : ℕ) (ends b0 b1 b2 b3 b4 b5 : List ℕ) → n ≡ length table.rows → b0 ≡ cond bare (schema_bytes columns) [] → b1 ≡ b0 ++ ends → b2 ≡ b1 ++ records_bytes (map (row_record table.columns) (taken n cursor table))
+    → b3 ≡ b2 ++ records_bytes (map mark_record table.marks) → b4 ≡ b3 ++ record_bytes (record { head = head.Next table.next; columns = []; row = [] }) → b5 ≡ b4 ++ 0 ∷ [] → b5 ≡ piece_bytes bare columns ends (rest_records cursor table) ++ 0 ∷ []
 gathered_rest bare columns cursor table n ends b0 b1 b2 b3 b4 b5 n_is e0 e1 e2 e3 e4 e5 =
-    let rows = map row_record (rows_from cursor table.rows) in
+    let rows = map (row_record table.columns) (rows_from cursor table.rows) in
     let ms = map mark_record table.marks in
     let next = record_bytes (next_record table.next) in
     let s = cond bare (schema_bytes columns) [] in
-    let two : b2 ≡ (s ++ ends) ++ records_bytes rows = e2 ∙ (λ i. (e1 ∙ ap (λ (l : List ℕ). l ++ ends) e0) i ++ records_bytes (map row_record (all_taken cursor table n n_is i))) in
+    let two : b2 ≡ (s ++ ends) ++ records_bytes rows = e2 ∙ (λ i. (e1 ∙ ap (λ (l : List ℕ). l ++ ends) e0) i ++ records_bytes (map (row_record table.columns) (all_taken cursor table n n_is i))) in
     let four : b4 ≡ (((s ++ ends) ++ records_bytes rows) ++ records_bytes ms) ++ next = e4 ∙ ap (λ (l : List ℕ). l ++ next) (e3 ∙ ap (λ (l : List ℕ). l ++ records_bytes ms) two) in
     let tail : records_bytes (ms ++ next_record table.next ∷ []) ≡ records_bytes ms ++ next = flat_map-append record_bytes ms (next_record table.next ∷ []) ∙ ap (λ (l : List ℕ). records_bytes ms ++ l) (append-nil next) in
     let all : records_bytes (rest_records cursor table) ≡ records_bytes rows ++ (records_bytes ms ++ next) = flat_map-append record_bytes rows (ms ++ next_record table.next ∷ []) ∙ ap (λ (l : List ℕ). records_bytes rows ++ l) tail in
@@ -46,9 +46,9 @@ gathered_rest bare columns cursor table n ends b0 b1 b2 b3 b4 b5 n_is e0 e1 e2 e
 
 -- how long that is
 pub rest_long : (bare : Bool) (columns : List Column) (cursor : ℕ) (table : TableState) (ends last : List ℕ) → last ≡ piece_bytes bare columns ends (rest_records cursor table) ++ 0 ∷ []
-    → length last ≡ length (cond bare (schema_bytes columns) []) + length ends + sum_by row_cost (rows_from cursor table.rows) + 10 * length table.marks + 10
+    → length last ≡ length (cond bare (schema_bytes columns) []) + length ends + sum_by (row_cost table.columns) (rows_from cursor table.rows) + 10 * length table.marks + 10
 rest_long bare columns cursor table ends last is =
     let rest = records_bytes (rest_records cursor table) in
     let piece = piece_bytes bare columns ends (rest_records cursor table) in
-    let parts = ap length (piece_some bare columns ends (map row_record (rows_from cursor table.rows)) (map mark_record table.marks) (next_record table.next)) in
+    let parts = ap length (piece_some bare columns ends (map (row_record table.columns) (rows_from cursor table.rows)) (map mark_record table.marks) (next_record table.next)) in
     omega (arith, ap length is, length-append piece (0 ∷ []), parts, length-append (cond bare (schema_bytes columns) []) (ends ++ rest), length-append ends rest, rest_length cursor table)

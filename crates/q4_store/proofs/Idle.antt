@@ -1,10 +1,10 @@
 -- A side that counts for nothing: what it reads as, and what each device call on it leaves.
-use Rattle.std.proofs.Common.{◌≡◌, ℕ, suc, zero, ◌≤◌, min, Bool, true, false, List, [], ◌∷◌, length, take, drop, get_or, Result, Ok, IsTrue, refl, sym, ◌∙◌, ap, subst, inl, inr, arith}
+use Rattle.std.proofs.Common.{◌≡◌, ◌⊎◌, codes, ℕ, suc, zero, ◌≤◌, min, Bool, true, false, List, [], ◌∷◌, length, take, drop, get_or, Result, Ok, IsTrue, refl, sym, ◌∙◌, ap, subst, inl, inr, arith}
 use Rattle.std.specs.Int.{w64, from_be_bytes}
 use Rattle.std.proofs.lemmas.List.{drop-drop}
 use Rattle.q4_value.specs.declared.column.Column.{Column}
 use Rattle.q4_table.specs.TableState.{TableState}
-use Rattle.q4_record.specs.Side.{gate_of, generation_of, told_at, IsOpen, Side as IsSide}
+use Rattle.q4_record.specs.Side.{gate_of, magic_of, HasMagic, generation_of, told_at, IsOpen, Side as IsSide}
 use Rattle.q4_disk.specs.declared.disk.Side.{Side}
 use Rattle.q4_disk.specs.declared.disk.Side.TheVariants.{A, B}
 use Rattle.q4_disk.specs.Told.{Sides, Told}
@@ -75,6 +75,10 @@ pub ready_idle : (known : Bool) (side : Side) (c : Sides) → IsReady known side
 ready_idle true side c ready = shut_idle side c ready
 ready_idle false side c ready = spare_idle side c ready
 
+-- bytes with the same magic have one of the two alike
+pub has_magic : (one two : List ℕ) → magic_of one ≡ magic_of two → HasMagic one → HasMagic two
+has_magic one two same magic = subst (λ m. (m ≡ codes "Q4O1") ⊎ (m ≡ codes "Q4O2")) same magic
+
 -- the generation stands behind the gate
 pub generation_kept : (x y : List ℕ) → drop 1 x ≡ drop 1 y → generation_of x ≡ generation_of y
 unfolding told_at
@@ -85,7 +89,7 @@ pub torn_spare : (side : Side) (d c : Sides) → IsSpare side d → Sided side (
 torn_spare side d c (inl few) torn = inl (omega (arith, few, torn.here.no_longer))
 torn_spare side d c (inr outdone) torn = inr (record {
   other_open = subst IsOpen (sym torn.there) outdone.other_open;
-  magic = ap (take 4) torn.here.after ∙ outdone.magic;
+  magic = has_magic (on side d) (on side c) (sym (ap (take 4) torn.here.after)) outdone.magic;
   lesser =
       let here = generation_kept (on side c) (on side d) torn.here.after in
       let there = ap generation_of torn.there in

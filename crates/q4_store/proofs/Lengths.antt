@@ -23,9 +23,9 @@ head_length (Next number) = refl
 
 pub change_length : (change : Record) → length (record_bytes change) ≡ change_size change
 change_length change =
-    let whole = length-append (head_bytes change.head) (row_bytes change.row) in
+    let whole = length-append (head_bytes change.head) (row_bytes change.columns change.row) in
     let head = head_length change.head in
-    let row = length-row_bytes change.row in
+    let row = length-row_bytes change.columns change.row in
     omega (arith, whole, head, row)
 
 changes_length : (changes : List Record) → length (records_bytes changes) ≡ sum_by change_size changes
@@ -72,7 +72,7 @@ pending_more (b ∷ bs) more some = let whole = length-append bs more in omega (
 pub store_longer : {D : Type 0} (told : D → Told) (store now : Stored D) (content : Content) (change : Record) (records : List ℕ) → store ≡ now → StandsFor told now content → records ≡ store.records ++ record_bytes change
     → store.end + pending_length records ≡ length_of now + change_cost content.pending (change_size change)
 store_longer told store now content change records is s more =
-    let some : record_bytes change ≡ [] → ⊥ = some_bytes change.head (row_bytes change.row) in
+    let some : record_bytes change ≡ [] → ⊥ = some_bytes change.head (row_bytes change.columns change.row) in
     let longer = ap pending_length more ∙ pending_more store.records (record_bytes change) some in
     let here = ap (λ (x : Stored _). x.end + (pending_length x.records + batch_size x.records (length (record_bytes change)))) is in
     let cost = ap (λ (bytes : List ℕ). batch_size bytes (length (record_bytes change))) s.records ∙ cost_length content.pending (length (record_bytes change)) ∙ ap (change_cost content.pending) (change_length change) in

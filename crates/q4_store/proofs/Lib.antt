@@ -4,7 +4,6 @@ pub mod Switching
 pub mod Landing
 pub mod Fronts
 pub mod Lifting
-pub mod RowParts
 pub mod Sealing
 pub mod Appending
 pub mod Commits

@@ -84,11 +84,11 @@ more_put before front here =
     ∙ sym (append_assoc before (records_bytes (map mark_record front)) (records_bytes (map mark_record here)))
 
 -- a source with a mark, and one without
-pub one_put : (ms : List Mark) (i number : ℕ) (before out after : List ℕ) → SourcesRise ms → All IsMark ms → number ≡ mark_of ms i → 0 < number → PutSoFar ms i before out → after ≡ out ++ record_bytes (record { head = head.Mark i number; row = [] }) → PutSoFar ms (i + 1) before after
+pub one_put : (ms : List Mark) (i number : ℕ) (before out after : List ℕ) → SourcesRise ms → All IsMark ms → number ≡ mark_of ms i → 0 < number → PutSoFar ms i before out → after ≡ out ++ record_bytes (record { head = head.Mark i number; columns = []; row = [] }) → PutSoFar ms (i + 1) before after
 one_put ms i number before out after rise are is some so put =
     let here : mark_here i (mark_of ms i) ≡ record { source = i; number = number } ∷ [] = ap (mark_here i) (sym is) ∙ cond-true (ltb 0 number) (record { source = i; number = number } ∷ []) [] (lt-ltb 0 number some) in
-    put ∙ ap (λ (l : List ℕ). l ++ record_bytes (record { head = head.Mark i number; row = [] })) so
-    ∙ ap (λ (l : List ℕ). (before ++ records_bytes (map mark_record (marks_below i ms))) ++ l) (sym (append-nil (record_bytes (record { head = head.Mark i number; row = [] }))))
+    put ∙ ap (λ (l : List ℕ). l ++ record_bytes (record { head = head.Mark i number; columns = []; row = [] })) so
+    ∙ ap (λ (l : List ℕ). (before ++ records_bytes (map mark_record (marks_below i ms))) ++ l) (sym (append-nil (record_bytes (record { head = head.Mark i number; columns = []; row = [] }))))
     ∙ sym (more_put before (marks_below i ms) (record { source = i; number = number } ∷ []))
     ∙ ap (λ qs. before ++ records_bytes (map mark_record qs)) (sym (marks_more i ms rise are ∙ ap (λ qs. marks_below i ms ++ qs) here))
 

@@ -44,11 +44,12 @@ module _ {D : Type 0} (told : D → Told) (store : Stored D) (columns : List Col
     reserve_copy = λ some. absurd (omega (arith, some, reserve));
   }
 
-  pub opened_stands : AreColumns columns → store.copy ≡ None → (IsTrue (told store.disk).honest → Within (told store.disk).images (IsReady store.known (other store.side))) → StandsFor told store (record { committed = table; pending = [] })
-  opened_stands are no_copy ready =
+  pub opened_stands : AreColumns columns → store.columns ≡ columns → store.copy ≡ None → (IsTrue (told store.disk).honest → Within (told store.disk).images (IsReady store.known (other store.side))) → StandsFor told store (record { committed = table; pending = [] })
+  opened_stands are own no_copy ready =
       let sound = sound_side columns bytes table store.generation store.end (are_columns columns are) side in
       record {
         columns = subst AreColumns (sym sound.columns_are) are;
+        own = own ∙ sym sound.columns_are;
         valid = sound.valid;
         unowned = sound.unowned;
         stand = tt;

@@ -30,19 +30,19 @@ use Rattle.q4_store.proofs.Quiet.{now_reads}
 use Rattle.q4_store.proofs.CopyStands.{some_same, prefix_moments, stands_beside}
 
 -- the bytes of rows in a base
-pub rows_length : (rows : List StoredRow) → length (records_bytes (map row_record rows)) ≡ sum_by row_cost rows
-rows_length [] = refl
-rows_length (r ∷ rs) =
-    omega (arith, ap length (flat_map-cons record_bytes (row_record r) (map row_record rs)), length-append (record_bytes (row_record r)) (records_bytes (map row_record rs)), change_length (row_record r), rows_length rs, sum_by-cons row_cost r rs)
+pub rows_length : (columns : List Column) (rows : List StoredRow) → length (records_bytes (map (row_record columns) rows)) ≡ sum_by (row_cost columns) rows
+rows_length columns [] = refl
+rows_length columns (r ∷ rs) =
+    omega (arith, ap length (flat_map-cons record_bytes (row_record columns r) (map (row_record columns) rs)), length-append (record_bytes (row_record columns r)) (records_bytes (map (row_record columns) rs)), change_length (row_record columns r), rows_length columns rs, sum_by-cons (row_cost columns) r rs)
 
 -- what is copied is no longer to be copied
-pub rest_less : (table : TableState) (cursor n : ℕ) → IsValidTable table → sum_by row_cost (rows_from cursor table.rows) ≡ sum_by row_cost (taken n cursor table) + sum_by row_cost (rows_from (cursor_after cursor (taken n cursor table)) table.rows)
+pub rest_less : (table : TableState) (cursor n : ℕ) → IsValidTable table → sum_by (row_cost table.columns) (rows_from cursor table.rows) ≡ sum_by (row_cost table.columns) (taken n cursor table) + sum_by (row_cost table.columns) (rows_from (cursor_after cursor (taken n cursor table)) table.rows)
 rest_less table cursor n valid =
     let later = cursor_after cursor (taken n cursor table) in
-    let now = ap (sum_by row_cost) (parted 0 table.next cursor table.rows valid.numbers) in
-    let then = ap (sum_by row_cost) (parted 0 table.next later table.rows valid.numbers) in
-    let below = ap (sum_by row_cost) (below_after 0 table.next cursor n table.rows valid.numbers) in
-    omega (arith, now, then, below, sum_by-append row_cost (rows_below cursor table.rows) (rows_from cursor table.rows), sum_by-append row_cost (rows_below later table.rows) (rows_from later table.rows), sum_by-append row_cost (rows_below cursor table.rows) (taken n cursor table))
+    let now = ap (sum_by (row_cost table.columns)) (parted 0 table.next cursor table.rows valid.numbers) in
+    let then = ap (sum_by (row_cost table.columns)) (parted 0 table.next later table.rows valid.numbers) in
+    let below = ap (sum_by (row_cost table.columns)) (below_after 0 table.next cursor n table.rows valid.numbers) in
+    omega (arith, now, then, below, sum_by-append (row_cost table.columns) (rows_below cursor table.rows) (rows_from cursor table.rows), sum_by-append (row_cost table.columns) (rows_below later table.rows) (rows_from later table.rows), sum_by-append (row_cost table.columns) (rows_below cursor table.rows) (taken n cursor table))
 
 -- the bytes that a piece adds
 none_had : (columns : List Column) (waiting rows : List Record) (ends : List ℕ) → waiting ≡ [] → ends ≡ records_bytes waiting → copy_bytes columns (waiting ++ rows) ≡ piece_bytes true columns ends rows
@@ -93,21 +93,21 @@ module _ {D : Type 0} (told : D → Told) (store : Stored D) (content : Content)
     later = cursor_after progress.cursor rows
 
     abbrev pub records : List Record
-    records = (copy.written ++ copy.waiting) ++ map row_record rows
+    records = (copy.written ++ copy.waiting) ++ map (row_record table.columns) rows
 
     abbrev pub piece : List ℕ
-    piece = piece_bytes (progress.at == base_at) table.columns store.ends (map row_record rows)
+    piece = piece_bytes (progress.at == base_at) table.columns store.ends (map (row_record table.columns) rows)
 
     pub bytes_are : copy_bytes table.columns records ≡ copy_bytes table.columns copy.written ++ piece
-    bytes_are = piece_is table.columns copy.written copy.waiting (map row_record rows) progress.at store.ends copy.at copy.first copy.ends
+    bytes_are = piece_is table.columns copy.written copy.waiting (map (row_record table.columns) rows) progress.at store.ends copy.at copy.first copy.ends
 
     pub piece_at : progress.at + length piece ≡ base_at + length (copy_bytes table.columns records)
     piece_at = omega (arith, copy.at, ap length bytes_are, length-append (copy_bytes table.columns copy.written) piece)
 
     pub piece_fits : copy_length later table records ≤ length_of store
     piece_fits =
-        let all = ap length (flat_map-append record_bytes (copy.written ++ copy.waiting) (map row_record rows)) in
-        omega (arith, copy.fits, all, length-append (records_bytes (copy.written ++ copy.waiting)) (records_bytes (map row_record rows)), rows_length rows, rest_less table progress.cursor n s.valid)
+        let all = ap length (flat_map-append record_bytes (copy.written ++ copy.waiting) (map (row_record table.columns) rows)) in
+        omega (arith, copy.fits, all, length-append (records_bytes (copy.written ++ copy.waiting)) (records_bytes (map (row_record table.columns) rows)), rows_length table.columns rows, rest_less table progress.cursor n s.valid)
 
     pub piece_small : length_of store ≤ side_limit → progress.at + length piece ≤ side_limit
     piece_small few = omega (arith, few, piece_at, piece_fits, copy_short table.columns records)

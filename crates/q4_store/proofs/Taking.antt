@@ -6,6 +6,7 @@ use Rattle.std.specs.Option.{option_map}
 use Rattle.std.proofs.lemmas.Bool.{cases_lt, ne_eqb, eq-eqb}
 use Rattle.std.proofs.lemmas.List.{flat_map_more}
 use Rattle.std.proofs.lemmas.List.Elements.{All-cons, All-head, All-filter}
+use Rattle.q4_value.specs.declared.column.Column.{Column}
 use Rattle.q4_value.specs.declared.row.Value.{Value}
 use Rattle.q4_value.specs.Row.{Fits}
 use Rattle.q4_table.specs.declared.rows.StoredRow.{StoredRow}
@@ -88,7 +89,7 @@ none_left table cursor valid is =
 pub record RowsSoFar (table : TableState) (start most : ℕ) (before : List ℕ) (cursor left : ℕ) (out : List ℕ) : Type 0 where
   pub done : List Record
   pub out_is : out ≡ before ++ records_bytes done
-  pub all : map row_record (taken most start table) ≡ done ++ map row_record (taken left cursor table)
+  pub all : map (row_record table.columns) (taken most start table) ≡ done ++ map (row_record table.columns) (taken left cursor table)
   pub ends : cursor_after start (taken most start table) ≡ cursor_after cursor (taken left cursor table)
 
 pub none_yet : (table : TableState) (start most : ℕ) (before : List ℕ) → RowsSoFar table start most before start most before
@@ -101,22 +102,22 @@ take_suc n x xs = ap (λ (k : ℕ). take k (x ∷ xs)) (plus_one n)
     plus_one n = omega arith
 
 pub one_more : (table : TableState) (start most : ℕ) (before : List ℕ) (cursor left : ℕ) (out after : List ℕ) (number : ℕ) → RowsSoFar table start most before cursor (left + 1) out → (l : LeastRow table cursor number)
-    → after ≡ out ++ record_bytes (row_record l.r) → RowsSoFar table start most before (number + 1) left after
+    → after ≡ out ++ record_bytes (row_record table.columns l.r) → RowsSoFar table start most before (number + 1) left after
 one_more table start most before cursor left out after number so l is =
     let rest = taken left (number + 1) table in
     let now : taken (left + 1) cursor table ≡ l.r ∷ rest = ap (take (left + 1)) l.rows ∙ take_suc left l.r (rows_from (number + 1) table.rows) in
     record {
-      done = so.done ++ row_record l.r ∷ [];
-      out_is = is ∙ ap (λ (bs : List ℕ). bs ++ record_bytes (row_record l.r)) so.out_is ∙ append_assoc before (records_bytes so.done) (record_bytes (row_record l.r)) ∙ ap (λ (bs : List ℕ). before ++ bs) (flat_map_more record_bytes [] so.done (row_record l.r));
-      all = so.all ∙ ap (λ qs. so.done ++ map row_record qs) now ∙ sym (append_assoc so.done (row_record l.r ∷ []) (map row_record rest));
+      done = so.done ++ row_record table.columns l.r ∷ [];
+      out_is = is ∙ ap (λ (bs : List ℕ). bs ++ record_bytes (row_record table.columns l.r)) so.out_is ∙ append_assoc before (records_bytes so.done) (record_bytes (row_record table.columns l.r)) ∙ ap (λ (bs : List ℕ). before ++ bs) (flat_map_more record_bytes [] so.done (row_record table.columns l.r));
+      all = so.all ∙ ap (λ qs. so.done ++ map (row_record table.columns) qs) now ∙ sym (append_assoc so.done (row_record table.columns l.r ∷ []) (map (row_record table.columns) rest));
       ends = so.ends ∙ ap (cursor_after cursor) now ∙ ap (λ n. cursor_after (n + 1) rest) l.is;
     }
 
 pub all_put : (table : TableState) (start most : ℕ) (before : List ℕ) (cursor left : ℕ) (out : List ℕ) → RowsSoFar table start most before cursor left out → taken left cursor table ≡ []
-    → (cursor ≡ cursor_after start (taken most start table)) × (out ≡ before ++ records_bytes (map row_record (taken most start table)))
+    → (cursor ≡ cursor_after start (taken most start table)) × (out ≡ before ++ records_bytes (map (row_record table.columns) (taken most start table)))
 all_put table start most before cursor left out so none = (
   sym (so.ends ∙ ap (cursor_after cursor) none),
-  so.out_is ∙ ap (λ rs. before ++ records_bytes rs) (sym (so.all ∙ ap (λ qs. so.done ++ map row_record qs) none ∙ append-nil so.done)),
+  so.out_is ∙ ap (λ rs. before ++ records_bytes rs) (sym (so.all ∙ ap (λ qs. so.done ++ map (row_record table.columns) qs) none ∙ append-nil so.done)),
 )
 
 -- such a row is one of the table's
@@ -138,8 +139,9 @@ pub row_missing : (table : TableState) (cursor number : ℕ) → (l : LeastRow t
 row_missing table cursor number l is = let wrong : None ≡ Some l.r.row = is ∙ l.values in cc wrong
 
 -- how the bytes of its record are put
-pub record_given : (out after : List ℕ) (number : ℕ) (row : List Value) (r : StoredRow) → after ≡ out ++ record_bytes (record { head = Insert number None; row = row }) → r.number ≡ number → row ≡ r.row → after ≡ out ++ record_bytes (row_record r)
-record_given out after number row r is number_is row_is = is ∙ (λ i. out ++ record_bytes (record { head = Insert (sym number_is i) None; row = row_is i }))
+pub record_given : (columns : List Column) (out after : List ℕ) (number : ℕ) (row : List Value) (r : StoredRow) → after ≡ out ++ record_bytes (record { head = Insert number None; columns = columns; row = row }) → r.number ≡ number → row ≡ r.row
+    → after ≡ out ++ record_bytes (row_record columns r)
+record_given columns out after number row r is number_is row_is = is ∙ (λ i. out ++ record_bytes (record { head = Insert (sym number_is i) None; columns = columns; row = row_is i }))
 
 -- whether a row is left
 none_of : (o : Option ℕ) → is_none o ≡ true → o ≡ None

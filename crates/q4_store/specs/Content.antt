@@ -1,5 +1,6 @@
 -- What a store stands for: a table, and the changes of it that wait for a commit.
 use Rattle.std.specs.Prelude.{◌≤◌, ◌+◌, ◌⊎◌, ℕ, List, [], ◌∷◌, ◌++◌, Option, take, length}
+use Rattle.q4_value.specs.declared.column.Column.{Column}
 use Rattle.q4_value.specs.declared.row.Value.{Value}
 use Rattle.q4_table.specs.declared.origin.Origin.{Origin}
 use Rattle.q4_table.specs.TableState.{TableState}
@@ -14,12 +15,12 @@ pub record Content : Type 0 where
   pub committed : TableState
   pub pending : List Record
 
--- a row that was added, with its number and where it came from, and a row that was removed
-abbrev pub row_added : ℕ → List Value → Option Origin → Record
-row_added number row origin = record { head = Insert number origin; row = row }
+-- a row of these columns that was added, with its number and where it came from, and a row that was removed
+abbrev pub row_added : List Column → ℕ → List Value → Option Origin → Record
+row_added columns number row origin = record { head = Insert number origin; columns = columns; row = row }
 
 abbrev pub row_ended : ℕ → Record
-row_ended number = record { head = End number; row = [] }
+row_ended number = record { head = End number; columns = []; row = [] }
 
 -- a table after changes
 abbrev pub changed : TableState → List Record → TableState

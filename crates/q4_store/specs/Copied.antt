@@ -2,6 +2,7 @@
 use Rattle.std.specs.Prelude.{◌≡◌, ◌≢◌, ◌≤◌, ◌+◌, ◌*◌, ℕ, Bool, true, false, List, [], ◌∷◌, ◌++◌, None, map, filter, length, take, nat_lt, nat_le, sum_by, replicate}
 use Rattle.q4_value.specs.declared.column.Column.{Column}
 use Rattle.q4_value.specs.Row.{row_size}
+use Rattle.q4_value.specs.Spelling.{optional_count}
 use Rattle.q4_table.specs.declared.rows.StoredRow.{StoredRow}
 use Rattle.q4_table.specs.TableState.{TableState}
 use Rattle.q4_record.specs.declared.replay.Stage.TheVariants as stage
@@ -52,25 +53,25 @@ taken n cursor table = take n (rows_from cursor table.rows)
 
 -- what is left of a base then: the rows from the cursor on, the marks and the next number
 abbrev pub rest_records : ℕ → TableState → List Record
-rest_records cursor table = map row_record (rows_from cursor table.rows) ++ (map mark_record table.marks ++ next_record table.next ∷ [])
+rest_records cursor table = map (row_record table.columns) (rows_from cursor table.rows) ++ (map mark_record table.marks ++ next_record table.next ∷ [])
 
 -- The base of a copy that is finished stands, and leads to the table.
 pub record IsFinished (table : TableState) (records : List Record) : Type 0 where
   pub stand : AllStand (at_base table.columns) records
   pub leads : replays (at_base table.columns) records ≡ record { stage = stage.Whole; table = table }
 
--- the bytes of a row in a base
-abbrev pub row_cost : StoredRow → ℕ
-row_cost r = 9 + row_size r.row
+-- the bytes of a row of these columns in a base: it has a flag for each optional column
+abbrev pub row_cost : List Column → StoredRow → ℕ
+row_cost columns r = 9 + (row_size r.row + optional_count columns)
 
 -- the least length of a side that stands for the table: header, schema, rows, marks, next and closing gate
 abbrev pub compact_size : TableState → ℕ
-compact_size table = base_at + length (schema_bytes table.columns) + sum_by row_cost table.rows + 10 * length table.marks + 10
+compact_size table = base_at + length (schema_bytes table.columns) + sum_by (row_cost table.columns) table.rows + 10 * length table.marks + 10
 
 -- how long the side will be up to and with its closing gate, once the rest follows these records
 abbrev pub copy_length : ℕ → TableState → List Record → ℕ
 copy_length cursor table records =
-    base_at + length (schema_bytes table.columns) + length (records_bytes records) + sum_by row_cost (rows_from cursor table.rows) + 10 * length table.marks + 10
+    base_at + length (schema_bytes table.columns) + length (records_bytes records) + sum_by (row_cost table.columns) (rows_from cursor table.rows) + 10 * length table.marks + 10
 
 -- what a copy has behind its header: where it has records, the schema and these
 abbrev pub copy_bytes : List Column → List Record → List ℕ

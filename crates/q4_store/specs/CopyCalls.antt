@@ -29,7 +29,7 @@ is_unsure fault.Memory = false
 -- a piece: one write of the next rows, at most so many, or none where there is nothing to write
 abbrev pub piece_calls : {D : Type 0} → Stored D → Progress → ℕ → TableState → List DeviceCall
 piece_calls store progress most table =
-    extend_calls (other store.side) progress.at (piece_bytes (progress.at == base_at) table.columns store.ends (map row_record (taken most progress.cursor table)))
+    extend_calls (other store.side) progress.at (piece_bytes (progress.at == base_at) table.columns store.ends (map (row_record table.columns) (taken most progress.cursor table)))
 
 -- what is left, the header with a generation greater by one, and a sync
 abbrev pub last_calls : {D : Type 0} → Stored D → Progress → TableState → List DeviceCall

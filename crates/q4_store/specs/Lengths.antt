@@ -1,6 +1,7 @@
 -- How long changes make a side, told without its bytes.
 use Rattle.std.specs.Prelude.{◌+◌, ℕ, List, [], ◌∷◌, Option, None, Some, sum_by}
 use Rattle.q4_value.specs.Row.{row_size}
+use Rattle.q4_value.specs.Spelling.{optional_count}
 use Rattle.q4_table.specs.declared.origin.Origin.{Origin}
 use Rattle.q4_record.specs.declared.head.Head.{Head}
 use Rattle.q4_record.specs.declared.head.Head.TheVariants.{Insert, End, Mark, Next}
@@ -18,9 +19,9 @@ head_size (End number) = 9
 head_size (Mark source number) = 10
 head_size (Next number) = 9
 
--- the bytes of a change's record
+-- the bytes of a change's record: its row has a flag for each optional column
 abbrev pub change_size : Record → ℕ
-change_size change = head_size change.head + row_size change.row
+change_size change = head_size change.head + (row_size change.row + optional_count change.columns)
 
 -- what changes that wait add to a side: their records, and 5 bytes for all of them
 abbrev pub waiting_size : List Record → ℕ

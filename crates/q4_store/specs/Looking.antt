@@ -6,7 +6,7 @@ use Rattle.q4_table.specs.TableState.{new_table}
 use Rattle.q4_record.specs.declared.side.SideFault.TheVariants as side_fault
 use Rattle.q4_record.specs.Faults.{SideFails}
 use Rattle.q4_record.specs.Written.{base_bytes}
-use Rattle.q4_record.specs.Side.{base_at, generation_of, IsOpen}
+use Rattle.q4_record.specs.Side.{base_at, generation_of, HasMagic, IsOpen}
 use Rattle.q4_disk.specs.declared.disk.Side.{Side}
 use Rattle.q4_disk.specs.declared.disk.Side.TheVariants.{A, B}
 use Rattle.q4_disk.specs.Told.{Sides, Told}
@@ -18,7 +18,7 @@ use Rattle.q4_store.specs.declared.head.Choice.{Choice}
 use Rattle.q4_store.specs.declared.head.Choice.TheVariants as choice
 use Rattle.q4_store.specs.declared.head.Head.{Head}
 use Rattle.q4_store.specs.declared.head.Head.TheVariants as head
-use Rattle.q4_store.specs.Reading.{HasMagic, IsCurrent}
+use Rattle.q4_store.specs.Reading.{IsCurrent}
 use Rattle.q4_store.specs.Parts.{IsShut, IsReady}
 use Rattle.q4_store.specs.Opening.{IsUnclear}
 
@@ -77,7 +77,7 @@ pub record StartsNew (told : Told) (known : Bool) : Type 0 where
 
 -- what stands between a side's gate and its base
 abbrev pub header_bytes : ℕ → ℕ → List ℕ
-header_bytes generation length = codes "Q4O1" ++ to_be_bytes w64 generation ++ to_be_bytes w64 length
+header_bytes generation length = codes "Q4O2" ++ to_be_bytes w64 generation ++ to_be_bytes w64 length
 
 -- A new table as it is written: its base with a closing gate, and the header.
 pub record IsDraft (columns : List Column) (base header : List ℕ) : Type 0 where

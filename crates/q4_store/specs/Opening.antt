@@ -12,7 +12,8 @@ use Rattle.q4_disk.specs.Images.{on}
 use Rattle.q4_disk.specs.Calls.{bump}
 use Rattle.q4_store.specs.declared.fault.OpenFault.{OpenFault}
 use Rattle.q4_store.specs.declared.fault.OpenFault.TheVariants as fault
-use Rattle.q4_store.specs.Reading.{HasMagic, IsCurrent}
+use Rattle.q4_record.specs.Side.{HasMagic}
+use Rattle.q4_store.specs.Reading.{IsCurrent}
 
 -- The side that a store of these two sides has: the one that counts, or side A where neither is open.
 abbrev pub IsChosen : Sides → Side → Type 0

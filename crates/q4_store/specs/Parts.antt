@@ -1,12 +1,12 @@
 -- What the parts of a write onto the side that isn't current stand on.
 use Rattle.std.specs.Prelude.{◌≡◌, ◌≢◌, ◌<◌, ◌⊎◌, ℕ, Bool, true, false, List, ◌∷◌, drop, replicate}
-use Rattle.q4_record.specs.Side.{base_at, generation_of, IsOpen, Side as IsSide}
+use Rattle.q4_record.specs.Side.{base_at, generation_of, HasMagic, IsOpen, Side as IsSide}
 use Rattle.q4_value.specs.declared.column.Column.{Column}
 use Rattle.q4_table.specs.TableState.{TableState}
 use Rattle.q4_disk.specs.declared.disk.Side.{Side}
 use Rattle.q4_disk.specs.Told.{Sides, Told}
 use Rattle.q4_disk.specs.Images.{on, other, size, Within}
-use Rattle.q4_store.specs.Reading.{HasMagic, IsBehind}
+use Rattle.q4_store.specs.Reading.{IsBehind}
 
 -- its gate is there and closed
 pub record IsShut (bytes : List ℕ) : Type 0 where

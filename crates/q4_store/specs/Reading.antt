@@ -1,14 +1,11 @@
 -- What opening gives of the bytes of two sides.
-use Rattle.std.specs.Prelude.{◌≡◌, ◌<◌, ◌⊎◌, ℕ, List, codes}
+use Rattle.std.specs.Prelude.{◌≡◌, ◌<◌, ◌⊎◌, ℕ, List}
 use Rattle.q4_value.specs.declared.column.Column.{Column}
 use Rattle.q4_table.specs.TableState.{TableState, new_table}
-use Rattle.q4_record.specs.Side.{magic_of, generation_of, IsOpen, Side as IsSide}
+use Rattle.q4_record.specs.Side.{HasMagic, generation_of, IsOpen, Side as IsSide}
 use Rattle.q4_disk.specs.declared.disk.Side.{Side}
 use Rattle.q4_disk.specs.Told.{Sides}
 use Rattle.q4_disk.specs.Images.{on, other}
-
-abbrev pub HasMagic : List ℕ → Type 0
-HasMagic bytes = magic_of bytes ≡ codes "Q4O1"
 
 -- where it is open, it has the magic and a lesser generation
 abbrev pub IsBehind : ℕ → List ℕ → Type 0

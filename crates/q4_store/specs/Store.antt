@@ -1,9 +1,11 @@
 -- What contracts see of a store, and what it stands for.
 use Rattle.std.specs.Prelude.{◌≡◌, ◌==◌, ◌<◌, ◌≤◌, ◌+◌, ◌-◌, ◌*◌, ℕ, Bool, true, false, List, [], ◌∷◌, ◌++◌, Option, None, Some, All, IsTrue, length, nat_lt, sum_by, if◌then◌else◌}
 use Rattle.std.specs.Option.{ForSome}
+use Rattle.q4_value.specs.declared.column.Column.{Column}
 use Rattle.q4_value.specs.declared.row.Value.{Value}
 use Rattle.q4_value.specs.Names.{AreColumns}
 use Rattle.q4_value.specs.Row.{Fits, row_size}
+use Rattle.q4_value.specs.Spelling.{optional_count}
 use Rattle.q4_table.specs.declared.adding.Check.TheVariants as check
 use Rattle.q4_table.specs.declared.origin.Origin.{Origin}
 use Rattle.q4_table.specs.Adding.{IsOrigin, check_of}
@@ -28,6 +30,8 @@ use Rattle.q4_store.specs.Content.{Content, table_of, row_ended, IsPrefix, IsPre
 
 pub record Stored (D : Type 0) : Type 0 where
   pub disk : D
+  -- the columns that it was opened with, by which rows are spelled
+  pub columns : List Column
   -- the current side, its length up to and with the closing gate, and its generation
   pub side : Side
   pub end : ℕ
@@ -96,6 +100,7 @@ pub record CopyStands {D : Type 0} (told : D → Told) (store : Stored D) (table
 -- The store stands for this content.
 pub record StandsFor {D : Type 0} (told : D → Told) (store : Stored D) (content : Content) : Type 0 where
   pub columns : AreColumns content.committed.columns
+  pub own : store.columns ≡ content.committed.columns
   pub valid : IsValidTable (table_of content)
   pub unowned : All (λ r. r.owner ≡ None) (table_of content).rows
   pub stand : AllStand (at_batches content.committed) content.pending
@@ -124,16 +129,17 @@ pub record IsRest {D : Type 0} (store : Stored D) (progress : Progress) (content
 -- How long the side will be once the copy is finished: what it has and what waits, the schema where it has none yet, and the rest.
 abbrev pub finished_length : {D : Type 0} → Stored D → Progress → TableState → ℕ
 finished_length store progress table =
-    progress.at + length (if progress.at == base_at then schema_bytes table.columns else []) + length store.ends + sum_by row_cost (rows_from progress.cursor table.rows) + 10 * length table.marks + 10
+    progress.at + length (if progress.at == base_at then schema_bytes table.columns else []) + length store.ends + sum_by (row_cost table.columns) (rows_from progress.cursor table.rows) + 10 * length table.marks + 10
 
 -- A copy that is under way will be, once it is finished, longer by so many bytes than the least that a side of the table takes.
 abbrev pub IsLongerBy : {D : Type 0} → Stored D → TableState → ℕ → Type 0
 IsLongerBy store table extra = ForSome store.copy (λ progress. finished_length store progress table ≡ compact_size table + extra)
 
 -- what the end of a row adds to that: where the copy has the row, its record and that of its end
-abbrev pub end_extra : Option Progress → ℕ → List Value → ℕ
-end_extra None number row = 0
-end_extra (Some progress) number row = if nat_lt number progress.cursor then 18 + row_size row else 0
+abbrev pub end_extra : Option Progress → List Column → ℕ → List Value → ℕ
+end_extra None columns number row = 0
+end_extra (Some progress) columns number row =
+    if nat_lt number progress.cursor then 18 + (row_size row + optional_count columns) else 0
 
 -- What a crash may leave behind a finish that is unsure: opening gives the table with a prefix of the changes or the whole
 -- table with a generation greater by one, and the new side, its gate taken as open, is that whole table.

@@ -1,13 +1,13 @@
-ghost use Rattle.std.specs.Prelude.{◌≡◌, ◌+◌, ◌-◌, ◌≤◌, ◌<◌, ◌^◌, ◌++◌, ◌↔◌, [], ◌∷◌, ℕ, List, All, IsTrue, IfOk, OnOk, length, take, drop, vec_len, vec_capacity};
+ghost use Rattle.std.specs.Prelude.{◌≡◌, ◌+◌, ◌-◌, ◌≤◌, ◌<◌, ◌^◌, ◌++◌, ◌↔◌, [], ◌∷◌, ℕ, List, IsTrue, IfOk, OnOk, length, take, drop, vec_len, vec_capacity};
 ghost use Rattle.std.specs.Int.{w32, to_be_bytes};
-ghost use Rattle.q4_value.specs.Row.{IsValue};
+ghost use Rattle.q4_value.specs.Row.{IsRowOf};
 ghost use Rattle.q4_record.specs.Record.{record_bytes};
 ghost use Rattle.q4_store.specs.Commit.{sealed};
 ghost use Rattle.q4_store.specs.Content.{row_added, row_ended};
 
-use crate::spelling::{put, put_end_head, put_insert_head, put_values};
+use q4_record::{spell_end, spell_insert};
 use q4_table::Origin;
-use q4_value::{NoMemory, Row};
+use q4_value::{Column, NoMemory, Row};
 use std::alloc::Global;
 use std::marker::Model;
 
@@ -78,17 +78,16 @@ impl Batch {
         }
     }
 
-    /// Puts the record of a row that was added behind the others.
-    pub fn put_row(&mut self, number: u64, row: &Row, origin: Option<Origin>)
-        requires values { All IsValue row.now }
-        requires room { length (record_bytes (row_added number row.now origin)) ≤ self.old.room }
-        requires few { length self.old.records + length (record_bytes (row_added number row.now origin)) < 2 ^ 32 }
-        ensures records { self.new.records ≡ self.old.records ++ record_bytes (row_added number row.now origin) }
-        ensures room { self.old.room ≤ self.new.room + length (record_bytes (row_added number row.now origin)) }
+    /// Puts the record of a row of these columns that was added behind the others.
+    pub fn put_row(&mut self, columns: &[Column], number: u64, row: &Row, origin: Option<Origin>)
+        requires row { IsRowOf columns.now row.now }
+        requires room { length (record_bytes (row_added columns.now number row.now origin)) ≤ self.old.room }
+        requires few { length self.old.records + length (record_bytes (row_added columns.now number row.now origin)) < 2 ^ 32 }
+        ensures records { self.new.records ≡ self.old.records ++ record_bytes (row_added columns.now number row.now origin) }
+        ensures room { self.old.room ≤ self.new.room + length (record_bytes (row_added columns.now number row.now origin)) }
     {
         unseal(&mut self.bytes);
-        put_insert_head(&mut self.bytes, number, origin);
-        put_values(&mut self.bytes, row);
+        spell_insert(columns, number, row, origin, &mut self.bytes);
         seal(&mut self.bytes);
     }
 
@@ -100,7 +99,7 @@ impl Batch {
         ensures room { self.old.room ≤ self.new.room + 9 }
     {
         unseal(&mut self.bytes);
-        put_end_head(&mut self.bytes, number);
+        spell_end(number, &mut self.bytes);
         seal(&mut self.bytes);
     }
 
@@ -112,6 +111,17 @@ impl Batch {
         self.bytes.truncate(4);
         seal(&mut self.bytes);
     }
+}
+
+// Puts these bytes behind what is there.
+fn put(out: &mut Vec<u8>, bytes: &[u8])
+    requires { length out.old.items + length bytes.now ≤ vec_capacity out.old }
+    ensures items { out.new.items ≡ out.old.items ++ bytes.now }
+    ensures capacity { vec_capacity out.old ≤ vec_capacity out.new }
+{
+    let Ok(()) = out.extend_from_slice(bytes) else {
+        unreachable!()
+    };
 }
 
 // Takes the closed gate away.

@@ -9,14 +9,11 @@ ghost use Rattle.q4_store.specs.Copied.{cursor_after, rows_from, taken, piece_by
 ghost use Rattle.q4_store.specs.Looking.{header_bytes};
 ghost use Rattle.q4_store.specs.Store.{ends_with};
 
-use crate::spelling::put_end_head;
-use q4_record::{put_insert, put_mark, put_next, put_schema};
+use crate::limit::BASE_AT;
+use q4_record::{put_insert, put_mark, put_next, put_schema, spell_end};
 use q4_table::{Table, tables_are_valid};
 use q4_value::{Bytes, NoMemory};
 use std::alloc::Global;
-
-// Where the base begins.
-const BASE_AT: u64 = 21;
 
 /// How far a copy of a table has come: the rows below the cursor are copied, and the next write goes to this place.
 #[derive(Clone, Copy)]
@@ -33,7 +30,7 @@ pub(crate) fn put_waiting(ends: &mut Vec<u8>, copy: Option<Progress>, number: u6
     ensures few { length ends.new.items ≤ length ends.old.items + 9 }
 {
     match copy {
-        Some(progress) if number < progress.cursor => put_end_head(ends, number),
+        Some(progress) if number < progress.cursor => spell_end(number, ends),
         _ => {}
     }
 }
@@ -55,7 +52,7 @@ pub(crate) fn gather(
 ) -> Result<Piece, NoMemory>
     requires schema { IsSchema table.now.columns }
     requires most { 1 ≤ most }
-    ensures bytes { IfOk result (λ piece. piece.bytes ≡ piece_bytes (progress.at == base_at) table.now.columns ends.now (map row_record (taken most progress.cursor table.now))) }
+    ensures bytes { IfOk result (λ piece. piece.bytes ≡ piece_bytes (progress.at == base_at) table.now.columns ends.now (map (row_record table.now.columns) (taken most progress.cursor table.now))) }
     ensures cursor { IfOk result (λ piece. piece.cursor ≡ cursor_after progress.cursor (taken most progress.cursor table.now)) }
 {
     let mut bytes = Bytes::new(alloc);
@@ -70,7 +67,7 @@ pub(crate) fn gather(
 // Puts the records of the next rows from the cursor on, at most so many, and gives the cursor behind them.
 fn put_rows(table: &Table, cursor: u64, most: u32, out: &mut Bytes) -> Result<u64, NoMemory>
     ensures cursor { IfOk result (λ after. after ≡ cursor_after cursor (taken most cursor table.now)) }
-    ensures put { OnOk result (out.new ≡ out.old ++ records_bytes (map row_record (taken most cursor table.now))) }
+    ensures put { OnOk result (out.new ≡ out.old ++ records_bytes (map (row_record table.now.columns) (taken most cursor table.now))) }
 {
     tables_are_valid(table);
     let mut cursor = cursor;
@@ -82,7 +79,7 @@ fn put_rows(table: &Table, cursor: u64, most: u32, out: &mut Bytes) -> Result<u6
         let Some(row) = table.row(number) else {
             unreachable!()
         };
-        put_insert(number, row, None, out)?;
+        put_insert(table.columns(), number, row, None, out)?;
         cursor = number + 1;
         left -= 1;
     }
@@ -150,6 +147,6 @@ pub(crate) fn header_of(generation: u64, length: u64) -> [u8; 20]
     let [i, j, k, l, m, n, o, p] = generation.to_be_bytes();
     let [a, b, c, d, e, f, g, h] = length.to_be_bytes();
     [
-        b'Q', b'4', b'O', b'1', i, j, k, l, m, n, o, p, a, b, c, d, e, f, g, h,
+        b'Q', b'4', b'O', b'2', i, j, k, l, m, n, o, p, a, b, c, d, e, f, g, h,
     ]
 }

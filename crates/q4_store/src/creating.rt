@@ -12,14 +12,12 @@ ghost use Rattle.q4_store.specs.Store.{IsSettled};
 ghost use Rattle.q4_store.specs.Looking.{StartsNew, IsDraft, header_bytes, draft_length};
 ghost use Rattle.q4_store.specs.Device.{Makes, create_calls};
 
+use crate::limit::BASE_AT;
 use crate::parts::{fill, prepare, switch};
 use q4_disk::{Disk, DiskFailed, Side};
 use q4_record::{put_next, put_schema};
 use q4_value::{Bytes, Columns, NoMemory};
 use std::alloc::Global;
-
-// Where the base begins.
-const BASE_AT: u64 = 21;
 
 /// The bytes of a new table as they are written.
 #[derive(Drop)]
@@ -49,7 +47,7 @@ fn header_of(length: u64) -> [u8; 20]
 {
     let [a, b, c, d, e, f, g, h] = length.to_be_bytes();
     [
-        b'Q', b'4', b'O', b'1', 0, 0, 0, 0, 0, 0, 0, 1, a, b, c, d, e, f, g, h,
+        b'Q', b'4', b'O', b'2', 0, 0, 0, 0, 0, 0, 0, 1, a, b, c, d, e, f, g, h,
     ]
 }
 

@@ -1,5 +1,5 @@
 ghost use Rattle.std.specs.Prelude.{◌≡◌, ◌≢◌, ◌+◌, ◌≤◌, ◌↔◌, ◌∷◌, [], ℕ, List, IsTrue, IfOk, IfErr, OnOk, OnErr, length, take, codes};
-ghost use Rattle.q4_record.specs.Side.{base_at, told_at, magic_of};
+ghost use Rattle.q4_record.specs.Side.{base_at, told_at};
 ghost use Rattle.q4_disk.specs.Told.{Sides, Told};
 ghost use Rattle.q4_disk.specs.Images.{on};
 ghost use Rattle.q4_disk.specs.Calls.{CountsFault};
@@ -8,10 +8,8 @@ ghost use Rattle.q4_store.specs.Device.{DeviceCall, Read, Makes};
 
 use crate::fault::OpenFault;
 use q4_disk::{Disk, DiskFailed, Side};
+use q4_record::{BASE_AT, has_magic, number_at};
 use std::cmp::Ordering;
-
-// How many bytes stand before a side's base.
-const HEAD_SIZE: usize = 21;
 
 /// What the first bytes of a side tell.
 #[derive(Clone, Copy)]
@@ -33,7 +31,7 @@ pub(crate) fn read_head<D: Disk>(disk: &mut D, side: Side) -> Result<Head, DiskF
     ensures device { Makes D.told (Read side 0 base_at ∷ []) result disk.old disk.new }
     ensures head { IfOk result (λ head. IsTrue (D.told disk.old).honest → IsHead (on side (D.told disk.old).bytes) head) }
 {
-    let mut bytes = [0; HEAD_SIZE];
+    let mut bytes = [0; BASE_AT];
     let count = disk.read(side, 0, &mut bytes)?;
     Ok(head_of(&bytes[..count]))
 }
@@ -48,36 +46,13 @@ fn head_of(bytes: &[u8]) -> Head
     if *gate != 1 {
         return Head::Shut;
     }
-    if bytes.len() < HEAD_SIZE {
+    if bytes.len() < BASE_AT {
         return Head::Short;
     }
     Head::Open {
         magic: has_magic(bytes),
         generation: number_at(bytes, 5),
     }
-}
-
-// Whether the magic stands behind the gate.
-fn has_magic(bytes: &[u8]) -> bool
-    requires { 5 ≤ length bytes.now }
-    ensures { IsTrue result ↔ (magic_of bytes.now ≡ codes "Q4O1") }
-{
-    let (_, behind) = bytes.split_at(1);
-    let (magic, _) = behind.split_at(4);
-    magic == b"Q4O1".as_slice()
-}
-
-// The number of 64 bits at this place.
-#[tactic(auto, unfolding(q4_record::specs::Side::told_at))]
-fn number_at(bytes: &[u8], at: usize) -> u64
-    requires { at + 8 ≤ length bytes.now }
-    ensures { result ≡ told_at at bytes.now }
-{
-    let (_, rest) = bytes.split_at(at);
-    let (front, _) = rest.split_at(8);
-    u64::from_be_bytes([
-        front[0], front[1], front[2], front[3], front[4], front[5], front[6], front[7],
-    ])
 }
 
 /// Which side counts, and which other gates are known to be there and closed.

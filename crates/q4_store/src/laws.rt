@@ -40,8 +40,8 @@ pub fn opening_laws()
 /// Laws of what a store stands for.
 pub fn content_laws()
     // A row that was appended is added as the table adds it, and one that was ended is removed as the table removes it.
-    ensures added { (content : Content) (number : ℕ) (row : List Field) (origin : Option RowOrigin) → number ≡ (table_of content).next
-        → table_of (with_change content (row_added number row origin)) ≡ add_row (table_of content) row origin }
+    ensures added { (content : Content) (columns : List Header) (number : ℕ) (row : List Field) (origin : Option RowOrigin) → number ≡ (table_of content).next
+        → table_of (with_change content (row_added columns number row origin)) ≡ add_row (table_of content) row origin }
     ensures ended { (content : Content) (number : ℕ)
         → table_of (with_change content (row_ended number)) ≡ record (table_of content) { rows = without_row number (table_of content).rows } }
     // A commit leaves the table.
@@ -77,7 +77,7 @@ pub fn copy_laws()
         → IsCopied (record table { rows = without_row number table.rows }) cursor (copied ++ row_ended number ∷ []) }
     // The next rows, at most so many.
     ensures piece { (table : TableState) (cursor most : ℕ) (copied : List Change) → IsValidTable table → All (λ r. r.owner ≡ None) table.rows → IsCopied table cursor copied
-        → IsCopied table (cursor_after cursor (taken most cursor table)) (copied ++ map row_record (taken most cursor table)) }
+        → IsCopied table (cursor_after cursor (taken most cursor table)) (copied ++ map (row_record table.columns) (taken most cursor table)) }
     // Below the cursor behind them are the rows that were below it, and these.
     ensures below { (table : TableState) (cursor most : ℕ) → IsValidTable table
         → rows_below (cursor_after cursor (taken most cursor table)) table.rows ≡ rows_below cursor table.rows ++ taken most cursor table }
@@ -93,7 +93,7 @@ pub fn copy_laws()
         → length (side_bytes generation (schema_bytes table.columns ++ records_bytes copied) (0 ∷ [])) ≤ side_limit → HasRoom table (base_at + length (schema_bytes table.columns ++ records_bytes copied) + 1)
         → Side table.columns (side_bytes generation (schema_bytes table.columns ++ records_bytes copied) (0 ∷ [])) table generation (base_at + length (schema_bytes table.columns ++ records_bytes copied) + 1) }
     // Neither the records of a piece, nor the cursor behind it, nor what is left see an owner.
-    ensures owners_of_piece { (table : TableState) (cursor most : ℕ) → map row_record (taken most cursor (without_owners table)) ≡ map row_record (taken most cursor table) }
+    ensures owners_of_piece { (table : TableState) (cursor most : ℕ) → map (row_record table.columns) (taken most cursor (without_owners table)) ≡ map (row_record table.columns) (taken most cursor table) }
     ensures owners_of_cursor { (table : TableState) (cursor most : ℕ) → cursor_after cursor (taken most cursor (without_owners table)) ≡ cursor_after cursor (taken most cursor table) }
     ensures owners { (table : TableState) (cursor : ℕ) → rest_records cursor (without_owners table) ≡ rest_records cursor table }
 {}

@@ -12,7 +12,6 @@ mod limit;
 mod loading;
 mod opening;
 mod parts;
-mod spelling;
 mod store;
 
 pub use fault::{AppendFault, CopyFault, OpenFault};

@@ -2,7 +2,10 @@ ghost use Rattle.std.specs.Prelude.{◌≡◌, ◌+◌, ◌≤◌, ◌^◌, OnOk
 ghost use Rattle.q4_store.specs.Store.{IsOver};
 
 // The most bytes of a side.
-const SIDE_LIMIT: u64 = 536_870_912;
+const SIDE_LIMIT: u64 = q4_record::SIDE_LIMIT as u64;
+
+// Where the base of a side begins.
+pub(crate) const BASE_AT: u64 = q4_record::BASE_AT as u64;
 
 // What the ends of one row, in the side and in a copy of it, add at most.
 const ROOM_FOR_ENDS: u64 = 32;

@@ -16,14 +16,12 @@ ghost use Rattle.q4_store.specs.Device.{DeviceCall, Sync, AllMade, Makes, Stops,
 use crate::creating::{create, make_draft};
 use crate::fault::OpenFault;
 use crate::head::{Choice, Head, choose, read_head};
+use crate::limit::BASE_AT;
 use crate::loading::load;
 use q4_disk::{Disk, DiskFailed, Side};
 use q4_table::Table;
 use q4_value::Columns;
 use std::alloc::Global;
-
-// Where the base begins.
-const BASE_AT: u64 = 21;
 
 /// What opening found, or made.
 #[derive(Drop)]

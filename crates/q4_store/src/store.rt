@@ -1,8 +1,8 @@
-ghost use Rattle.std.specs.Prelude.{◌≡◌, ◌≢◌, ◌+◌, ◌-◌, ◌*◌, ◌≤◌, ◌<◌, ◌^◌, ◌++◌, ◌↔◌, ℕ, Bool, true, false, None, Some, List, [], ◌∷◌, All, IsTrue, IsSome, IsOk, IsErr, IfOk, IfErr, OnOk, OnErr, length, vec_capacity};
+ghost use Rattle.std.specs.Prelude.{◌≡◌, ◌≢◌, ◌+◌, ◌-◌, ◌*◌, ◌≤◌, ◌<◌, ◌^◌, ◌++◌, ◌↔◌, ℕ, Bool, true, false, None, Some, List, [], ◌∷◌, IsTrue, IsSome, IsOk, IsErr, IfOk, IfErr, OnOk, OnErr, length, vec_capacity};
 ghost use Rattle.std.specs.Option.{ForSome, option_map};
 ghost use Rattle.q4_value.specs.Names.{AreColumns};
 ghost use Rattle.q4_value.specs.declared.row.Value.{Value as Field};
-ghost use Rattle.q4_value.specs.Row.{IsValue};
+ghost use Rattle.q4_value.specs.Row.{IsRowOf};
 ghost use Rattle.q4_table.specs.Rows.{values_in};
 ghost use Rattle.q4_record.specs.Record.{record_bytes};
 ghost use Rattle.q4_record.specs.Side.{side_limit, base_at};
@@ -26,21 +26,18 @@ use crate::batch::Batch;
 use crate::committing::commit_batch;
 use crate::copying::{Progress, gather, gather_rest, header_of, none_left, put_waiting};
 use crate::fault::{AppendFault, CopyFault, OpenFault};
-use crate::limit::room;
+use crate::limit::{BASE_AT, room};
 use crate::opening::find;
 use crate::parts::{extend_by, fill, prepare, switch};
 use q4_def::TableDef;
 use q4_disk::{Disk, DiskFailed, Side};
 use q4_table::{Origin, Table};
-use q4_value::{NoMemory, Row};
+use q4_value::{Column, Columns, NoMemory, Row};
 use std::alloc::Global;
 use std::marker::Model;
 
 // What a batch has besides its records: a gate and their length.
 const BATCH_SIZE: u64 = 5;
-
-// Where the base begins.
-const BASE_AT: u64 = 21;
 
 // The size of the record of a row's end.
 const END_SIZE: usize = 9;
@@ -53,6 +50,8 @@ const END_SIZE: usize = 9;
 #[derive(Drop)]
 pub struct Store<D: Disk> {
     disk: D,
+    // by which rows are spelled
+    columns: Columns,
     side: Side,
     end: u64,
     generation: u64,
@@ -74,9 +73,9 @@ impl<D: Disk> Model for Store<D> {
 
     ghost Value = { Stored D };
 
-    ghost view = { λ s. record { disk = s.disk; side = s.side; end = s.end; generation = s.generation; records = s.batch.records; rows = s.rows; reserved = s.reserved; known = s.known; failed = s.failed; copy = s.copy; ends = s.ends.items } };
+    ghost view = { λ s. record { disk = s.disk; columns = s.columns; side = s.side; end = s.end; generation = s.generation; records = s.batch.records; rows = s.rows; reserved = s.reserved; known = s.known; failed = s.failed; copy = s.copy; ends = s.ends.items } };
 
-    ghost invariant = { λ s. IsHeld D.told (record { disk = s.disk; side = s.side; end = s.end; generation = s.generation; records = s.batch.records; rows = s.rows; reserved = s.reserved; known = s.known; failed = s.failed; copy = s.copy; ends = s.ends.items }) s.batch.room (vec_capacity s.ends) };
+    ghost invariant = { λ s. IsHeld D.told (record { disk = s.disk; columns = s.columns; side = s.side; end = s.end; generation = s.generation; records = s.batch.records; rows = s.rows; reserved = s.reserved; known = s.known; failed = s.failed; copy = s.copy; ends = s.ends.items }) s.batch.room (vec_capacity s.ends) };
 }
 
 impl<D: Disk> Store<D> {
@@ -92,7 +91,7 @@ impl<D: Disk> Store<D> {
         ensures stands { IfOk result (λ opened. StandsFor D.told opened.0 (record { committed = opened.1; pending = [] })) }
         // Whether the gate of the other side is there and closed is known exactly.
         ensures known { IfOk result (λ opened. IsTrue (D.told disk).honest → (opened.0.known ≡ true) ↔ IsShut (on (other opened.0.side) (D.told disk).bytes)) }
-        ensures fresh { IfOk result (λ opened. (opened.0.failed ≡ false) × (opened.0.records ≡ []) × (opened.0.reserved ≡ 0) × (opened.0.copy ≡ None) × (opened.1.columns ≡ def.now.columns)) }
+        ensures fresh { IfOk result (λ opened. (opened.0.columns ≡ def.now.columns) × (opened.0.failed ≡ false) × (opened.0.records ≡ []) × (opened.0.reserved ≡ 0) × (opened.0.copy ≡ None) × (opened.1.columns ≡ def.now.columns)) }
         // Whatever the disk tells.
         ensures generation { IfOk result (λ opened. (1 ≤ opened.0.generation) × (opened.0.generation ≤ 2 ^ 62)) }
         // At each moment inside it each image reads as one that there was.
@@ -123,8 +122,12 @@ impl<D: Disk> Store<D> {
         let Ok(memory) = hold(alloc, rows) else {
             return Err((OpenFault::Memory, disk));
         };
+        let Ok(columns) = def.columns.copy(alloc) else {
+            return Err((OpenFault::Memory, disk));
+        };
         let store = Store {
             disk,
+            columns,
             side: found.side,
             end: found.end,
             generation: found.generation,
@@ -206,6 +209,13 @@ impl<D: Disk> Store<D> {
         self.rows
     }
 
+    /// The columns that it was opened with, by which rows are spelled.
+    pub fn columns(&self) -> &[Column]
+        ensures { result.now ≡ self.now.columns }
+    {
+        self.columns.as_slice()
+    }
+
     pub fn disk(&self) -> &D
         ensures { result.now ≡ self.now.disk }
     {
@@ -258,22 +268,24 @@ impl<D: Disk> Store<D> {
         Ok(())
     }
 
-    /// Appends a row that was added, with its number and where it came from. It needs a reserve for its record.
+    /// Appends a row of the store's columns that was added, with its number and where it came from. It needs a reserve
+    /// for its record.
     pub fn append_row(&mut self, number: u64, row: &Row, origin: Option<Origin>)
-        requires values { All IsValue row.now }
-        requires reserved { change_size (row_added number row.now origin) ≤ self.old.reserved }
+        requires row { IsRowOf self.old.columns row.now }
+        requires reserved { change_size (row_added self.old.columns number row.now origin) ≤ self.old.reserved }
         ensures stands { (content : Content) → StandsFor D.told self.old content → TakesRow content number row.now origin
-            → StandsFor D.told self.new (with_change content (row_added number row.now origin)) }
-        ensures change { self.new ≡ record self.old { records = self.old.records ++ record_bytes (row_added number row.now origin); rows = self.old.rows + 1; reserved = 0 } }
-        ensures length { length_of self.new ≡ length_of self.old + cost_of self.old (length (record_bytes (row_added number row.now origin))) }
+            → StandsFor D.told self.new (with_change content (row_added self.old.columns number row.now origin)) }
+        ensures change { self.new ≡ record self.old { records = self.old.records ++ record_bytes (row_added self.old.columns number row.now origin); rows = self.old.rows + 1; reserved = 0 } }
+        ensures length { length_of self.new ≡ length_of self.old + cost_of self.old (length (record_bytes (row_added self.old.columns number row.now origin))) }
         // Told by the changes that wait.
         ensures longer { (content : Content) → StandsFor D.told self.old content
-            → length_of self.new ≡ length_of self.old + change_cost content.pending (change_size (row_added number row.now origin)) }
+            → length_of self.new ≡ length_of self.old + change_cost content.pending (change_size (row_added self.old.columns number row.now origin)) }
         // A copy that is under way will have it once, as a copy that is made at once.
         ensures copy { (content : Content) (extra : ℕ) → StandsFor D.told self.old content → TakesRow content number row.now origin
-            → IsLongerBy self.old (table_of content) extra → IsLongerBy self.new (table_of (with_change content (row_added number row.now origin))) extra }
+            → IsLongerBy self.old (table_of content) extra → IsLongerBy self.new (table_of (with_change content (row_added self.old.columns number row.now origin))) extra }
     {
-        self.batch.put_row(number, row, origin);
+        self.batch
+            .put_row(self.columns.as_slice(), number, row, origin);
         self.rows += 1;
         self.reserved = 0;
     }
@@ -290,7 +302,7 @@ impl<D: Disk> Store<D> {
             → length_of self.new ≡ length_of self.old + change_cost content.pending (change_size (row_ended number)) }
         // A copy that has the row will be longer by its record and that of its end.
         ensures copy { (content : Content) (row : List Field) (extra : ℕ) → StandsFor D.told self.old content → values_in (table_of content).rows number ≡ Some row
-            → IsLongerBy self.old (table_of content) extra → IsLongerBy self.new (table_of (with_change content (row_ended number))) (extra + end_extra self.old.copy number row) }
+            → IsLongerBy self.old (table_of content) extra → IsLongerBy self.new (table_of (with_change content (row_ended number))) (extra + end_extra self.old.copy self.old.columns number row) }
     {
         self.batch.put_end(number);
         put_waiting(&mut self.ends, self.copy, number);

@@ -1,5 +1,5 @@
-ghost use Rattle.std.specs.Prelude.{◌≡◌, ◌≤◌, ◌<◌, ◌^◌, All};
-ghost use Rattle.q4_value.specs.Row.{IsValue, row_size as size_of};
+ghost use Rattle.std.specs.Prelude.{◌≡◌, ◌≤◌, ◌<◌, ◌^◌, length};
+ghost use Rattle.q4_value.specs.Row.{row_size as size_of};
 ghost use Rattle.q4_store.specs.Content.{row_added};
 ghost use Rattle.q4_store.specs.Lengths.{change_size};
 
@@ -17,15 +17,16 @@ use crate::OpenFault::{Damaged, Large, Schema};
 use crate::{AppendFault, OpenFault, Store, room};
 use q4_def::read_defs;
 use q4_disk::{Disk, MemoryDisk, Pick, Side, StopDisk};
+use q4_record::optional_count;
 use q4_table::{Mode, Origin, Table};
-use q4_value::{Bytes, Row, Value, Words, fits, row_size};
+use q4_value::{Bytes, Column, Row, Value, Words, fits, row_size};
 use std::alloc::Global;
 use std::process::Abort;
 use std::test::*;
 
 // Side A of a table of a number and a text, of generation 1, with row 1, which is 7 and `resize a.png`.
 static WORKED: [u8; 83] = [
-    0x01, 0x51, 0x34, 0x4f, 0x31, // the open gate and the magic
+    0x01, 0x51, 0x34, 0x4f, 0x31, // the open gate and the first magic
     0x00, 0x00, 0x00, 0x00, 0x00, 0x00, 0x00, 0x01, // 5: the generation
     0x00, 0x00, 0x00, 0x00, 0x00, 0x00, 0x00, 0x17, // 13: the length of the base
     0x07, 0x02, 0x01, 0x04, 0x70, 0x72, 0x69, 0x6f, 0x02, 0x04, 0x62, 0x6f, 0x64, 0x79, // 21: the schema
@@ -97,43 +98,25 @@ fn seeded(rt: &impl Abort, alloc: Global, a: &[u8], b: &[u8]) -> MemoryDisk {
     disk
 }
 
-fn job(rt: &impl Abort, alloc: Global, prio: i64, body: &str) -> Row
-    ensures values { All IsValue result }
-    ensures size { size_of result < 2 ^ 31 }
-{
+fn job(rt: &impl Abort, alloc: Global, prio: i64, body: &str) -> Row {
     let mut row = Row::new(alloc);
     let body = Words::new(alloc, body).expect(rt, "memory");
     assert!(rt; row.push(Value::Int(prio)).is_ok());
     assert!(rt; row.push(Value::Word(body)).is_ok());
-    fitting(rt, alloc, "", row)
+    row
 }
 
-// The row, which fits the first table that the text defines.
-fn fitting(rt: &impl Abort, alloc: Global, text: &str, row: Row) -> Row
-    ensures values { All IsValue result }
-    ensures size { size_of result < 2 ^ 31 }
+// The size of the record of a row of these columns that was added.
+fn record_size(columns: &[Column], row: &Row, origin: Option<Origin>) -> u64
+    requires few { length columns.now ≤ 32 }
+    requires size { size_of row.now < 2 ^ 31 }
+    ensures size { result ≡ change_size (row_added columns.now 0 row.now origin) }
+    ensures small { result ≤ 2 ^ 32 }
 {
-    let Ok(defs) = read_defs(alloc, text.as_bytes()) else {
-        panic!(rt; "no definitions")
-    };
-    let Some(def) = defs.table(0) else {
-        panic!(rt; "no definition")
-    };
-    match fits(def.columns.as_slice(), &row) {
-        Ok(()) => row,
-        Err(_) => panic!(rt; "the row does not fit"),
-    }
-}
-
-// The size of the record of a row that was added.
-fn record_size(row: &Row, origin: Option<Origin>) -> u64
-    requires { size_of row.now < 2 ^ 31 }
-    ensures size { result ≡ change_size (row_added 0 row.now origin) }
-    ensures few { result ≤ 2 ^ 32 }
-{
+    let flags = optional_count(columns) as u64;
     match origin {
-        None => 9 + row_size(row),
-        Some(_) => 19 + row_size(row),
+        None => 9 + row_size(row) + flags,
+        Some(_) => 19 + row_size(row) + flags,
     }
 }
 
@@ -144,11 +127,14 @@ fn append<D: Disk>(
     number: u64,
     row: &Row,
     origin: Option<Origin>,
-)
-    requires values { All IsValue row.now }
-    requires size { size_of row.now < 2 ^ 31 }
-{
-    match store.reserve(record_size(row, origin), store.rows()) {
+) {
+    let columns = store.columns();
+    assert!(rt; columns.len() <= 32);
+    let Ok(()) = fits(columns, row) else {
+        panic!(rt; "the row does not fit")
+    };
+    let size = record_size(columns, row, origin);
+    match store.reserve(size, store.rows()) {
         Ok(()) => store.append_row(number, row, origin),
         Err(_) => panic!(rt; "no room"),
     }
@@ -208,7 +194,10 @@ fn a_store_writes_the_worked_side(rt: HostRuntime) {
     assert_eq!(rt; store.commit(), Ok(()));
     assert_eq!(rt; (store.length(), store.pending()), (83, false));
     let disk = store.give_back();
-    assert_eq!(rt; disk.bytes(Side::A), WORKED.as_slice());
+    // in the second format
+    let mut worked = WORKED;
+    worked[4] = 0x32;
+    assert_eq!(rt; disk.bytes(Side::A), worked.as_slice());
     assert_eq!(rt; disk.bytes(Side::B), [].as_slice());
     assert_eq!(rt; given(&rt, alloc, disk), Ok((1, 1, 2, 83)));
 }

@@ -2,17 +2,21 @@ use super::acts::Act::{Add, Begin, Commit, End, Finish, Forward, Piece};
 use super::acts::Answer::{self, Done, Generation, Last, More};
 use super::acts::{Act, Want};
 use super::twin::Twin;
-use super::{added, counts};
-use q4_disk::MemoryDisk;
+use super::{WORKED, added, counts, given, seeded};
+use q4_disk::{MemoryDisk, Side};
 use q4_table::Mode;
 use std::test::*;
 
 // A table of one number.
 const NUMBERED: &str = "[[table]]\nname = \"t\"\ncolumns = [\"n int\"]\n";
 
+// A table of two numbers, the second of them optional.
+const OPTIONAL: &str = "[[table]]\nname = \"t\"\ncolumns = [\"n int\", \"m int null\"]\n";
+
 // Calls on a new table, and what opening gives after them. The record of a row has 9 bytes and the row: of a number
 // 17 in all, of a number and a text of one byte 22. A side without a row or a mark has 36 bytes with the one schema,
-// and 45 with the other.
+// and 45 with the other. With an optional number behind a number it has 39 bytes, and a record has 26 bytes or, with a
+// null, 18.
 struct Copy {
     name: &'static str,
     text: &'static str,
@@ -20,7 +24,7 @@ struct Copy {
     want: Want,
 }
 
-static COPIES: [Copy; 8] = [
+static COPIES: [Copy; 9] = [
     Copy {
         name: "no row",
         text: "",
@@ -162,6 +166,26 @@ static COPIES: [Copy; 8] = [
             length: 194,
         },
     },
+    // rows 2 and 4 have a null; row 1 is copied, and ended in the copy
+    Copy {
+        name: "nulls",
+        text: OPTIONAL,
+        acts: &[
+            (Add(4), Done),
+            (Commit, Done),
+            (Begin, Done),
+            (Piece(2), More),
+            (End(1, 1), Done),
+            (Finish, Generation(2)),
+        ],
+        want: Want {
+            generation: 2,
+            rows: &[(2, 4)],
+            next: 5,
+            marks: &[],
+            length: 136,
+        },
+    },
     Copy {
         name: "two copies",
         text: "",
@@ -201,6 +225,24 @@ fn copies_are_read_again(rt: HostRuntime) {
         let twin = Twin::open(&rt, alloc, twin.give_back(), copy.text);
         twin.assert_is(&rt, &copy.want, copy.name);
     }
+}
+
+// A side of the first format stays current and takes batches. Its copy is of the second format.
+#[test]
+fn a_side_of_the_first_format_is_copied(rt: HostRuntime) {
+    let alloc = rt.alloc();
+    let mut twin = Twin::open(&rt, alloc, seeded(&rt, alloc, &WORKED, &[]), "");
+    twin.play(&rt, &[(Add(1), Done), (Commit, Done)], "a batch");
+    // 83, then 5 and a record of 22 bytes
+    assert_eq!(rt; twin.store().length(), 110);
+    let old = twin.store().disk().bytes(Side::A);
+    assert!(rt; old.starts_with(&WORKED[..5]));
+    twin.play(&rt, &[(Begin, Done), (Finish, Generation(2))], "a copy");
+    let disk = twin.give_back();
+    let copy = disk.bytes(Side::B);
+    assert!(rt; copy.starts_with(&[0x01, 0x51, 0x34, 0x4f, 0x32]));
+    // 45, and records of 33 and 22 bytes
+    assert_eq!(rt; given(&rt, alloc, disk), Ok((2, 2, 3, 100)));
 }
 
 // Calls on a new table, and how many device calls, writes, syncs and faults each of them makes.

@@ -8,8 +8,14 @@ use std::alloc::Global;
 use std::process::Abort;
 use std::test::*;
 
-fn made(rt: &impl Abort, alloc: Global, maker: &mut impl DiskMaker<Disk = FileDisk>) -> FileDisk {
-    match maker.make(alloc, "jobs") {
+// The tests run in one folder, so each has a table of its own.
+fn made(
+    rt: &impl Abort,
+    alloc: Global,
+    maker: &mut impl DiskMaker<Disk = FileDisk>,
+    table: &str,
+) -> FileDisk {
+    match maker.make(alloc, table) {
         Ok(disk) => disk,
         Err(_) => panic!(rt; "no files"),
     }
@@ -19,7 +25,7 @@ fn made(rt: &impl Abort, alloc: Global, maker: &mut impl DiskMaker<Disk = FileDi
 fn a_store_in_files(rt: HostRuntime) {
     let alloc = rt.alloc();
     let mut maker = FileMaker::new(&rt);
-    let (mut store, _) = opened(&rt, alloc, made(&rt, alloc, &mut maker));
+    let (mut store, _) = opened(&rt, alloc, made(&rt, alloc, &mut maker, "jobs"));
     append(
         &rt,
         &mut store,
@@ -29,7 +35,7 @@ fn a_store_in_files(rt: HostRuntime) {
     );
     assert_eq!(rt; store.commit(), Ok(()));
     drop(store);
-    let disk = made(&rt, alloc, &mut maker);
+    let disk = made(&rt, alloc, &mut maker, "jobs");
     assert_eq!(rt; given(&rt, alloc, disk), Ok((1, 1, 2, 83)));
 }
 
@@ -67,12 +73,12 @@ const TWO_COPIES_GIVE: Want = Want {
 fn two_copies_in_files(rt: HostRuntime) {
     let alloc = rt.alloc();
     let mut maker = FileMaker::new(&rt);
-    let disk = made(&rt, alloc, &mut maker);
+    let disk = made(&rt, alloc, &mut maker, "copies");
     let mut twin = Twin::open(&rt, alloc, disk, "");
     twin.play(&rt, &TWO_COPIES, "in files");
     twin.assert_is(&rt, &TWO_COPIES_GIVE, "in files");
     drop(twin.give_back());
-    let disk = made(&rt, alloc, &mut maker);
+    let disk = made(&rt, alloc, &mut maker, "copies");
     let twin = Twin::open(&rt, alloc, disk, "");
     twin.assert_is(&rt, &TWO_COPIES_GIVE, "opened again");
 }

@@ -92,7 +92,7 @@ impl<D: Disk> Twin<D> {
 fn first_value(table: &Table, number: u64) -> Option<i64> {
     match table.row(number)?.at(0)? {
         Value::Int(value) => Some(*value),
-        Value::Word(_) => None,
+        Value::Word(_) | Value::Null => None,
     }
 }
 
@@ -164,10 +164,10 @@ impl<D: Disk> Twin<D> {
         let Check::New = self.table.check(&row, origin) else {
             panic!(rt; "{number} is refused")
         };
-        let Ok(()) = self
-            .store
-            .reserve(record_size(&row, origin), self.store.rows())
-        else {
+        same_columns(&self.store, &self.table);
+        assert!(rt; self.store.columns().len() <= 32);
+        let size = record_size(self.store.columns(), &row, origin);
+        let Ok(()) = self.store.reserve(size, self.store.rows()) else {
             panic!(rt; "no room")
         };
         self.store.append_row(number, &row, origin);
@@ -237,6 +237,11 @@ fn nobody_owns<D: Disk>(_store: &Store<D>, _table: &Table)
     ensures { (content : Content) → StandsFor D.told _store.now content → table_of content ≡ _table.now → table_of content ≡ without_owners _table.now }
 {}
 
+// A law: a store spells rows by the columns of its table.
+fn same_columns<D: Disk>(_store: &Store<D>, _table: &Table)
+    ensures { (content : Content) → StandsFor D.told _store.now content → table_of content ≡ _table.now → _store.now.columns ≡ _table.now.columns }
+{}
+
 fn check_origin(rt: &impl Abort, origin: Option<Origin>)
     ensures { ForSome origin IsOrigin }
 {
@@ -247,14 +252,15 @@ fn check_origin(rt: &impl Abort, origin: Option<Origin>)
     }
 }
 
-// A row of these columns: each number is this one, and each text is `a`.
+// A row of these columns: each number is this one, and each text is `a`. Where this one is even, an optional column has
+// null.
 fn row_of(rt: &impl Abort, alloc: Global, columns: &[Column], number: u64) -> Row
     ensures { Fits columns.now result }
 {
     assert!(rt; columns.len() <= 32);
     let mut row = Row::new(alloc);
     for column in columns {
-        let value = value_of(rt, alloc, column.kind, number);
+        let value = value_of(rt, alloc, column, number);
         assert!(rt; row.push(value).is_ok());
     }
     match fits(columns, &row) {
@@ -263,8 +269,11 @@ fn row_of(rt: &impl Abort, alloc: Global, columns: &[Column], number: u64) -> Ro
     }
 }
 
-fn value_of(rt: &impl Abort, alloc: Global, kind: Kind, number: u64) -> Value {
-    match kind {
+fn value_of(rt: &impl Abort, alloc: Global, column: &Column, number: u64) -> Value {
+    if column.optional && number % 2 == 0 {
+        return Value::Null;
+    }
+    match column.kind {
         Kind::Int => Value::Int(i64::try_from(number).expect(rt, "a row's number")),
         Kind::Words => Value::Word(Words::new(alloc, "a").expect(rt, "memory")),
     }

@@ -1,7 +1,8 @@
-use Rattle.std.proofs.Common.{◌≡◌, ◌+◌, ◌-◌, sym, ◌∙◌, ap, subst, arith}
+use Rattle.std.proofs.Common.{◌≡◌, ◌+◌, ◌-◌, ◌++◌, None, sym, ◌∙◌, ap, subst, arith}
 use Rattle.std.specs.Option.{option_copied}
-use Rattle.q4_value.specs.Row.{row_size, IsValue}
-use Rattle.std.specs.List.{All}
+use Rattle.q4_value.specs.Row.{IsRowOf}
+use Rattle.q4_record.specs.declared.head.Head.TheVariants.{Insert}
+use Rattle.q4_record.specs.Record.{record_bytes}
 use Rattle.q4_store.proofs.Taking.{RowsSoFar, LeastRow, least_row, least_fits, least_below, row_given, row_missing, record_given, one_more}
 use Rattle.q4_store.proofs.copying.put_rows.Goals as goal
 
@@ -13,18 +14,12 @@ unreachable-requires c =
     let l = least_row c.args.table.now c.loop-left.cursor c.in-Some.number c.tables_are_valid.ensures (sym c.live_from.ensures ∙ c.in-Some.is) in
     row_missing c.args.table.now c.loop-left.cursor c.in-Some.number l (sym (ap option_copied c.in_default-row.is) ∙ c.row.ensures)
 
-pub put_insert-requires-clause-values : goal.put_insert-requires-clause-values
-put_insert-requires-clause-values c =
+pub put_insert-requires : goal.put_insert-requires
+put_insert-requires c =
     let l = least_row c.args.table.now c.loop-left.cursor c.in-Some.number c.tables_are_valid.ensures (sym c.live_from.ensures ∙ c.in-Some.is) in
     let same = row_given c.args.table.now c.loop-left.cursor c.in-Some.number l c.in-Some-row.row.now (sym (ap option_copied c.in-Some-row.is) ∙ c.row.ensures) in
-    subst (λ row. All IsValue row) (sym same) (least_fits c.args.table.now c.loop-left.cursor c.in-Some.number c.tables_are_valid.ensures l).row_of.values
-
-pub put_insert-requires-clause-size : goal.put_insert-requires-clause-size
-put_insert-requires-clause-size c =
-    let l = least_row c.args.table.now c.loop-left.cursor c.in-Some.number c.tables_are_valid.ensures (sym c.live_from.ensures ∙ c.in-Some.is) in
-    let same = row_given c.args.table.now c.loop-left.cursor c.in-Some.number l c.in-Some-row.row.now (sym (ap option_copied c.in-Some-row.is) ∙ c.row.ensures) in
-    let size = (least_fits c.args.table.now c.loop-left.cursor c.in-Some.number c.tables_are_valid.ensures l).size in
-    omega (arith, size, ap row_size same)
+    subst (λ columns. IsRowOf columns c.in-Some-row.row.now) (sym c.columns.ensures)
+    (subst (λ row. IsRowOf c.args.table.now.columns row) (sym same) (least_fits c.args.table.now c.loop-left.cursor c.in-Some.number c.tables_are_valid.ensures l).row_of)
 
 pub overflow_add-cursor : goal.overflow_add-cursor
 overflow_add-cursor c =
@@ -39,6 +34,6 @@ loop-left-preserved c =
     let left_is : c.loop-left.left ≡ (c.loop-left.left - 1) + 1 = let some = c.loop-left-test.true in omega (arith, some) in (
       one_more c.args.table.now c.args.cursor c.args.most c.args.out.now c.loop-left.cursor (c.loop-left.left - 1) c.loop-left.out c.put_insert.new.out c.in-Some.number
           (subst (λ n. RowsSoFar c.args.table.now c.args.cursor c.args.most c.args.out.now c.loop-left.cursor n c.loop-left.out) left_is c.loop-left.invariant.0) l
-          (record_given c.loop-left.out c.put_insert.new.out c.in-Some.number c.in-Some-row.row.now l.r c.in_ok-put_insert.ensures.put l.is same),
+          (record_given c.args.table.now.columns c.loop-left.out c.put_insert.new.out c.in-Some.number c.in-Some-row.row.now l.r (c.in_ok-put_insert.ensures.put ∙ ap (λ cs. c.loop-left.out ++ record_bytes (record { head = Insert c.in-Some.number None; columns = cs; row = c.in-Some-row.row.now })) c.columns.ensures) l.is same),
       c.tables_are_valid.ensures,
     )

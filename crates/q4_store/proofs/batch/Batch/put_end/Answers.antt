@@ -7,5 +7,5 @@ use Rattle.q4_store.proofs.batch.Batch.put_end.Goals as goal
 pub returns-clause-records : goal.returns-clause-records
 returns-clause-records c =
     let more = record_bytes (row_ended c.args.number) in
-    added_unsealed c.self.inside.bytes.items more c.put_end_head.new.out.items c.seal.new.bytes.items c.self.invariant (c.put_end_head.ensures.items ∙ ap (λ (l : List ℕ). l ++ more) c.unseal.ensures.items) c.seal.ensures.items
+    added_unsealed c.self.inside.bytes.items more c.spell_end.new.out.items c.seal.new.bytes.items c.self.invariant (c.spell_end.ensures.items ∙ ap (λ (l : List ℕ). l ++ more) c.unseal.ensures.items) c.seal.ensures.items
     ∙ ap (λ w. w.records ++ more) c.self.view_is

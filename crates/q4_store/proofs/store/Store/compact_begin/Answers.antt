@@ -44,7 +44,7 @@ returns-in-Err-clause-stands g c content s =
 
 pub returns-in-Ok-clause-length : goal.returns-in-Ok-clause-length
 returns-in-Ok-clause-length g c content s =
-    begun_longer (record { disk = c.prepare.new.disk; side = c.self.inside.side; end = c.self.inside.end; generation = c.self.inside.generation; records = c.self.inside.batch.records; rows = c.self.inside.rows; reserved = c.self.inside.reserved; known = c.prepare.new.known; failed = c.self.inside.failed; copy = Some (record { cursor = 1; at = 21 }); ends = c.truncate.new.self.items })
+    begun_longer (record { disk = c.prepare.new.disk; columns = c.self.inside.columns; side = c.self.inside.side; end = c.self.inside.end; generation = c.self.inside.generation; records = c.self.inside.batch.records; rows = c.self.inside.rows; reserved = c.self.inside.reserved; known = c.prepare.new.known; failed = c.self.inside.failed; copy = Some (record { cursor = 1; at = 21 }); ends = c.truncate.new.self.items })
     (table_of content) s.valid refl c.truncate.ensures.items
 
 pub returns-in-Ok-clause-known : goal.returns-in-Ok-clause-known

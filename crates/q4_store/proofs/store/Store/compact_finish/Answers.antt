@@ -22,6 +22,7 @@ module _ (g : given.Over) where
   abbrev view : (c : goal.After-as_slice-last g) → Stored g.row.D.Denot
   view c = record {
     disk = c.self.inside.disk;
+    columns = c.self.inside.columns;
     side = c.self.inside.side;
     end = c.self.inside.end;
     generation = c.self.inside.generation;

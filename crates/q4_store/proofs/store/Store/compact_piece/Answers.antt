@@ -38,6 +38,7 @@ module _ (g : given.Over) where
   abbrev view : (c : goal.After-extend_by g) → Stored g.row.D.Denot
   view c = record {
     disk = c.self.inside.disk;
+    columns = c.self.inside.columns;
     side = c.self.inside.side;
     end = c.self.inside.end;
     generation = c.self.inside.generation;
@@ -75,7 +76,7 @@ module _ (g : given.Over) where
   gathered c content s same =
       c.as_slice-more.ensures ∙ c.in-Ok.ensures.bytes
       ∙ (λ i. piece_bytes (c.in-Some.progress.at == base_at) c.args.table.now.columns (c.deref.ensures.value i) (sym (piece_unowned c.args.most c.in-Some.progress.cursor c.args.table.now) i))
-      ∙ (λ i. piece_bytes (c.in-Some.progress.at == base_at) (sym same i).columns c.self.inside.ends.items (map row_record (taken c.args.most c.in-Some.progress.cursor (sym same i))))
+      ∙ (λ i. piece_bytes (c.in-Some.progress.at == base_at) (sym same i).columns c.self.inside.ends.items (map (row_record (sym same i).columns) (taken c.args.most c.in-Some.progress.cursor (sym same i))))
 
 pub returns-in_default-extend_by-clause-any_moment : goal.returns-in_default-extend_by-clause-any_moment
 returns-in_default-extend_by-clause-any_moment g c = moments g (goal.at.returns-in_default-extend_by-clause-any_moment g c).After-extend_by
@@ -138,7 +139,7 @@ module _ (g : given.Over) where
       → extend_calls c.other_of.result c.in-Some.progress.at c.as_slice-more.result.now ≡ piece_calls c.args.self.now progress c.args.most c.args.table.now
   piece_here c progress is =
       let same : c.in-Some.progress ≡ progress = same_some (sym c.in-Some.is ∙ (ap (λ (store : Stored g.row.D.Denot). store.copy) c.self.view_is ∙ is)) in
-      let bytes = c.as_slice-more.ensures ∙ c.in-Ok.ensures.bytes ∙ ap (λ (ends : List ℕ). piece_bytes (c.in-Some.progress.at == base_at) c.args.table.now.columns ends (map row_record (taken c.args.most c.in-Some.progress.cursor c.args.table.now))) c.deref.ensures.value in
+      let bytes = c.as_slice-more.ensures ∙ c.in-Ok.ensures.bytes ∙ ap (λ (ends : List ℕ). piece_bytes (c.in-Some.progress.at == base_at) c.args.table.now.columns ends (map (row_record c.args.table.now.columns) (taken c.args.most c.in-Some.progress.cursor c.args.table.now))) c.deref.ensures.value in
       (λ i. extend_calls (c.other_of.ensures i) c.in-Some.progress.at (bytes i))
       ∙ (λ i. piece_calls (c.self.view_is i) (same i) c.args.most c.args.table.now)
 

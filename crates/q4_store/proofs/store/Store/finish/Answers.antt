@@ -24,6 +24,7 @@ module _ (g : given.Over) where
   abbrev view : (c : goal.After-truncate g) → Stored g.row.D.Denot
   view c = record {
     disk = c.self.inside.disk;
+    columns = c.self.inside.columns;
     side = c.self.inside.side;
     end = c.self.inside.end;
     generation = c.self.inside.generation;
@@ -166,7 +167,7 @@ pub returns-clause-stands : goal.returns-clause-stands
 returns-clause-stands g c content s r =
     let a = (goal.at.returns-clause-stands g c).After-truncate in
     let told = g.D.Disk.told in
-    subst (λ side. StandsFor told (record { disk = c.switch.new.disk; side = side; end = c.args.progress.at + length c.args.last.now; generation = c.self.inside.generation + 1; records = c.clear.new.self.records; rows = c.self.inside.rows; reserved = 0; known = false; failed = false; copy = None; ends = c.truncate.new.self.items }) (all_committed content)) (sym c.other_of-side.ensures)
+    subst (λ side. StandsFor told (record { disk = c.switch.new.disk; columns = c.self.inside.columns; side = side; end = c.args.progress.at + length c.args.last.now; generation = c.self.inside.generation + 1; records = c.clear.new.self.records; rows = c.self.inside.rows; reserved = 0; known = false; failed = false; copy = None; ends = c.truncate.new.self.items }) (all_committed content)) (sym c.other_of-side.ensures)
     (stands_finished told _ content (here g a content s) c.args.progress (copying g a) (room g a) (whole g a) c.args.last.now c.args.header.now (rest_here g a content r) c.switch.new.disk c.clear.new.self.records c.truncate.new.self.items (c.switch.ensures.honest ∙ c.fill.ensures.honest) c.clear.ensures.records
     (settled_here g (goal.at.returns-clause-stands g c).In-Ok-switch content s r)
     (λ h. other_then (fill_other g (goal.at.returns-clause-stands g c).After-fill h) (subst (λ side. OtherStays side (told c.fill.new.disk) (told c.switch.new.disk)) c.other_of-side.ensures (c.switch.ensures.other (c.fill.ensures.honest ∙ h)))))

@@ -13,12 +13,12 @@ invariant_of-store g c =
 pub returns-clause-stands : goal.returns-clause-stands
 returns-clause-stands g c =
     let found = c.in-Ok.ensures in
-    opened_stands g.D.Disk.told _ c.args.def.now.columns found.sound.0 c.in-Ok.found.table found.sound.1 (λ h. found.settled (sym found.honest ∙ h)) c.in-Ok-hold.ensures.records c.count-rows.ensures c.requires refl (λ h. found.ready (sym found.honest ∙ h))
+    opened_stands g.D.Disk.told _ c.args.def.now.columns found.sound.0 c.in-Ok.found.table found.sound.1 (λ h. found.settled (sym found.honest ∙ h)) c.in-Ok-hold.ensures.records c.count-rows.ensures c.requires c.in-Ok-copy.ensures refl (λ h. found.ready (sym found.honest ∙ h))
 
 pub returns-clause-fresh : goal.returns-clause-fresh
 returns-clause-fresh g c =
     let found = c.in-Ok.ensures in
-    (refl, c.in-Ok-hold.ensures.records, refl, refl, (sound_side _ found.sound.0 c.in-Ok.found.table c.in-Ok.found.generation c.in-Ok.found.end (are_columns _ c.requires) found.sound.1).columns_are)
+    (c.in-Ok-copy.ensures, refl, c.in-Ok-hold.ensures.records, refl, refl, (sound_side _ found.sound.0 c.in-Ok.found.table c.in-Ok.found.generation c.in-Ok.found.end (are_columns _ c.requires) found.sound.1).columns_are)
 
 pub returns-clause-generation : goal.returns-clause-generation
 returns-clause-generation g c =
@@ -27,3 +27,6 @@ returns-clause-generation g c =
 
 pub returns-in_default-clause-device_err : goal.returns-in_default-clause-device_err
 returns-in_default-clause-device_err g c = opened_unheld g.D.Disk.told c.args.def.now.columns c.args.disk c.find.new.disk c.in-Ok.ensures.device
+
+pub returns-in_default-copy-clause-device_err : goal.returns-in_default-copy-clause-device_err
+returns-in_default-copy-clause-device_err g c = opened_unheld g.D.Disk.told c.args.def.now.columns c.args.disk c.find.new.disk c.in-Ok.ensures.device
