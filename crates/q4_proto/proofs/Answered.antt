@@ -10,7 +10,7 @@ use Rattle.std.proofs.lemmas.List.Sums.{split_at_first, passes_at_first}
 use Rattle.q4_value.specs.declared.column.Column.{Column}
 use Rattle.q4_value.specs.declared.row.Value.{Value}
 use Rattle.q4_value.specs.Escape.{escaped}
-use Rattle.q4_value.specs.Row.{row_limit, kind_of, IsValue, IsRowOf, row_size}
+use Rattle.q4_value.specs.Row.{row_limit, IsValue, IsRowOf, row_size}
 use Rattle.q4_value.proofs.EscapeLaws.{escaped_once}
 use Rattle.q4_cond.specs.declared.fault.CondFault.{CondFault}
 use Rattle.q4_cond.specs.Condition.{Condition}
@@ -27,7 +27,7 @@ use Rattle.q4_proto.specs.declared.command.CommandFault.TheVariants.{NotText, Un
 use Rattle.q4_proto.specs.declared.keyword.Keyword.{Keyword}
 use Rattle.q4_proto.specs.declared.keyword.Keyword.TheVariants.{Insert, Source, Wait, RowId, End, Abort, Select, Compact, Quit}
 use Rattle.q4_proto.specs.Fields.{fields_of, IsSpelled, IsFirst}
-use Rattle.q4_proto.specs.Commands.{spelled_value, entries_of, seconds_of, IsSeconds, SpellsEntry, SpellEntries, IsNotBuilt, IsWrongCount, IsBadNumber, IsOfNoTable, EntryFails, IsMisspelled, NoneBefore, IsRefused, ReadsFields, Begins, Reads}
+use Rattle.q4_proto.specs.Commands.{spelled_value, insert_texts, entries_of, seconds_of, IsSeconds, SpellsEntry, SpellEntries, IsNotBuilt, IsWrongCount, IsBadNumber, IsOfNoTable, EntryFails, IsMisspelled, NoneBefore, IsRefused, ReadsFields, Begins, Reads}
 use Rattle.q4_proto.specs.Inner.{IsCut}
 use Rattle.q4_proto.proofs.Colons.{is_colon}
 use Rattle.q4_proto.proofs.Named.{escaped_name, contained_name, found_contained}
@@ -150,14 +150,14 @@ early_escape defs args values field is = early defs Insert args 5 (omega arith) 
 
 -- a value for each column, and the field that spells it
 abbrev Good : Column × List ℕ → Type 0
-Good pair = SpellsValue pair.0.kind pair.1
+Good pair = SpellsValue pair.0 pair.1
 
 value_or_none : (pair : Column × List ℕ) → Decided (Good pair) → IsMisspelled pair ⊎ (Good pair × (IsMisspelled pair → ⊥))
 value_or_none pair (inl good) = inr (good, λ bad. bad good.0 good.1 good.2 good.3)
-value_or_none pair (inr bad) = inl (λ value kinds is spells. bad (value, kinds, is, spells))
+value_or_none pair (inr bad) = inl (λ value takes is spells. bad (value, takes, is, spells))
 
 row_of : (columns : List Column) (values : List (List ℕ)) → length values ≡ length columns → All Good (zip columns values) → (row : List Value) × (values ≡ map spelled_value row) × IsRowOf columns row
-row_of [] [] same good = ([], refl, record { kinds = refl; values = All-nil IsValue })
+row_of [] [] same good = ([], refl, record { taken = tt; values = All-nil IsValue })
 row_of [] (f ∷ values) same good = absurd (omega (arith, same))
 row_of (c ∷ columns) [] same good = absurd (omega (arith, same))
 row_of (c ∷ columns) (f ∷ values) same good =
@@ -166,7 +166,7 @@ row_of (c ∷ columns) (f ∷ values) same good =
       here.0 ∷ rest.0,
       ap (λ x. x ∷ values) here.3 ∙ ap (λ xs. spelled_value here.0 ∷ xs) rest.1,
       record {
-        kinds = ap (λ k. k ∷ map kind_of rest.0) here.1 ∙ ap (λ ks. c.kind ∷ ks) rest.2.kinds;
+        taken = (here.1, rest.2.taken);
         values = All-cons IsValue here.0 rest.0 here.2 rest.2.values;
       },
     )
@@ -174,7 +174,7 @@ row_of (c ∷ columns) (f ∷ values) same good =
 insert_row : (defs : List TableDef) (args values : List (List ℕ)) (field : List ℕ) (place : ℕ) → Into defs args values field place → length values ≡ length (columns_at defs place) → Answer defs Insert args
 unfolding Answer
 insert_row defs args values field place into same =
-    elim (first_or_all (λ pair. Unit {0}) IsMisspelled Good (λ pair known. value_or_none pair (value_told pair.0.kind pair.1)) (zip (columns_at defs place) values) (λ k d inside. tt)) [
+    elim (first_or_all (λ pair. Unit {0}) IsMisspelled Good (λ pair known. value_or_none pair (value_told pair.0 pair.1)) (zip (columns_at defs place) values) (λ k d inside. tt)) [
       | inl first ↦ (Err (BadValue first.0), (λ e. cc), bad_value defs args values field place first.0 into same (record { same = same; first = first.1 }))
       | inr good ↦
           let read = row_of (columns_at defs place) values same good in
@@ -189,7 +189,7 @@ unfolding Answer
 insert_values defs args values field place into (inl same) = insert_row defs args values field place into same
 insert_values defs args values field place into (inr differs) = (Err (Count (length (columns_at defs place))), (λ e. cc), wrong_count defs args values field place into differs)
 
-insert_table : (defs : List TableDef) (field : List ℕ) (values : List (List ℕ)) → AreDefs defs → All IsSpelled (field ∷ values) → Answer defs Insert (field ∷ values)
+insert_table : (defs : List TableDef) (field : List ℕ) (values : List (List ℕ)) → AreDefs defs → All IsSpelled (insert_texts (field ∷ values)) → Answer defs Insert (field ∷ values)
 unfolding Answer
 insert_table defs field values are spelled_all = elim (name_told (names_of defs) field) [
   | inl found ↦ insert_values defs (field ∷ values) values field found.0 (record { are = are; args_are = refl; spelled = spelled_all; is_table = found.1 }) (number_same (length values) (length (columns_at defs found.0)))
@@ -204,7 +204,7 @@ insert_table defs field values are spelled_all = elim (name_told (names_of defs)
 insert_answer : (defs : List TableDef) (args : List (List ℕ)) → AreDefs defs → Answer defs Insert args
 unfolding Answer
 insert_answer defs [] are = (Err Fields, (λ e. cc), wrong_fields defs Insert [] (λ b. b) refl)
-insert_answer defs (field ∷ values) are = elim (escape_or_none (field ∷ values)) [
+insert_answer defs (field ∷ values) are = elim (escape_or_none (insert_texts (field ∷ values))) [
   | inl first ↦ (Err (Escape first.0), (λ e. cc), record { stands = first.1; first = early_escape defs (field ∷ values) values field refl })
   | inr spelled_all ↦ insert_table defs field values are spelled_all
 ]

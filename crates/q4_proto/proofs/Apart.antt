@@ -11,7 +11,7 @@ use Rattle.std.proofs.lemmas.List.Sums.{sum_by-cons}
 use Rattle.q4_value.specs.declared.row.Value.{Value}
 use Rattle.q4_value.specs.declared.row.Value.TheVariants.{Int, Word}
 use Rattle.q4_value.specs.Escape.{escaped, IsFieldByte}
-use Rattle.q4_value.specs.Row.{kind_of, IsValue, value_size, row_size}
+use Rattle.q4_value.specs.Row.{IsValue, IsRowOf, row_size}
 use Rattle.q4_value.proofs.EscapeLaws.{escaped_once}
 use Rattle.q4_value.proofs.Runs.{IsNoBackslash, plain}
 use Rattle.q4_def.specs.declared.table_def.TableDef.{TableDef}
@@ -26,10 +26,11 @@ use Rattle.q4_proto.specs.declared.command.CommandFault.TheVariants.{NotText, Un
 use Rattle.q4_proto.specs.declared.keyword.Keyword.{Keyword}
 use Rattle.q4_proto.specs.declared.keyword.Keyword.TheVariants.{Insert, Source, Wait, RowId, End, Abort, Select, Compact, Quit}
 use Rattle.q4_proto.specs.Fields.{IsSpelled, IsFirst}
-use Rattle.q4_proto.specs.Commands.{word_of, spelled_value, SpellsInsert, entries_of, SpellsWait, Spells, IsOfNoTable, Stands, rank, IsRefused, Begins, ReadsLine, Reads}
+use Rattle.q4_proto.specs.Commands.{word_of, spelled_value, text_of_value, insert_texts, SpellsInsert, entries_of, SpellsWait, Spells, IsOfNoTable, Stands, rank, IsRefused, Begins, ReadsLine, Reads}
 use Rattle.q4_proto.proofs.Named.{escaped_name, found_name}
 use Rattle.q4_proto.proofs.Entries.{entries_stand, none_fails}
 use Rattle.q4_proto.proofs.Refusing.{Into, into_same, before_size}
+use Rattle.q4_proto.proofs.Spellings.{value_text, row_once}
 use Rattle.q4_proto.proofs.Values.{row_length}
 use Rattle.q4_proto.proofs.Selecting.{select_apart}
 use Rattle.q4_proto.proofs.Waiting.{passed_some, passed_number, passed_spelled, passed_few, passed_named, passed_all, none_before}
@@ -49,70 +50,27 @@ small_rank (BadValue j) = omega arith
 small_rank Long = omega arith
 small_rank Memory = omega arith
 
--- ## A number stands for itself in a field
-
-below_all : (ds : List ℕ) → AllBelowBase 10 ds → All (λ d. d < 10) ds
-below_all [] below = All-nil (λ d. d < 10)
-below_all (d ∷ ds) below = All-cons (λ d. d < 10) d ds below.0 (below_all ds below.1)
-
-abbrev IsNumberByte : ℕ → Type 0
-IsNumberByte b = (45 ≤ b) × (b ≤ 57)
-
-digits_number : (n : ℕ) → n < 2 ^ 64 → All IsNumberByte (decimal n)
-digits_number zero small = subst (All IsNumberByte) (sym (decimal_digit 0 (omega arith))) (All-cons IsNumberByte 48 [] (omega arith, omega arith) (All-nil IsNumberByte))
-digits_number (suc n) small = subst (All IsNumberByte) (sym (decimal-digits_of (suc n) (omega arith) small))
-    (All-map IsNumberByte (λ d. 48 + d) (digits_of 10 (suc n)) (All-weaker (λ d. d < 10) (λ d. IsNumberByte (48 + d)) (λ d h. let lt : d < 10 = h in (omega arith, omega (arith, lt))) (digits_of 10 (suc n)) (below_all (digits_of 10 (suc n)) (all_below_base_digits_of 10 (suc n) (omega arith)))))
-
-number_bytes : (z : ℤ) → FitsSigned w64 z → All IsNumberByte (signed_decimal z)
-number_bytes (pos n) fits = digits_number n (let small = fits.sfits in omega (arith, small))
-number_bytes (negsuc n) fits = All-cons IsNumberByte 45 (decimal (suc n)) (omega arith, omega arith) (digits_number (suc n) (let small = fits.sfits in omega (arith, small)))
-
-number_field : (b : ℕ) → IsNumberByte b → IsFieldByte b
-number_field b h = (λ e. omega (arith, e, h.0), λ e. omega (arith, e, h.0), λ e. omega (arith, e, h.0))
-
-number_plain : (b : ℕ) → IsNumberByte b → IsNoBackslash b
-number_plain b h = λ e. omega (arith, e, h.1)
-
-value_spelled : (v : Value) → IsValue v → IsSpelled (spelled_value v)
-value_spelled (Int z) is = (signed_decimal z, sym (plain (signed_decimal z) (All-weaker IsNumberByte IsFieldByte number_field (signed_decimal z) (number_bytes z is)) (All-weaker IsNumberByte IsNoBackslash number_plain (signed_decimal z) (number_bytes z is))))
-value_spelled (Word text) is = (text, refl)
-
 -- ## Inserts
 
 spelled_into : (defs : List TableDef) (args : List (List ℕ)) (place : ℕ) (row : List Value) → AreDefs defs → (s : SpellsInsert defs args place row) → Into defs args (map spelled_value row) s.name place
 spelled_into defs args place row are s =
     let same : escaped s.name ≡ s.name = escaped_name s.name (found_name defs place s.name are s.is_table) in
-    let values = All-map IsSpelled spelled_value row (All-weaker IsValue (λ v. IsSpelled (spelled_value v)) value_spelled row s.row_is.fits.row_of.values) in
+    let texts = All-weaker IsValue (λ v. IsSpelled (text_of_value (spelled_value v))) value_text row s.row_is.fits.row_of.values in
+    let values = All-map IsSpelled text_of_value (map spelled_value row) (All-map (λ f. IsSpelled (text_of_value f)) spelled_value row texts) in
     record {
       are = are;
       args_are = s.args_are ∙ ap (λ f. f ∷ map spelled_value row) same;
-      spelled = subst (All IsSpelled) (sym s.args_are) (All-cons IsSpelled (escaped s.name) (map spelled_value row) (s.name, refl) values);
+      spelled = subst (λ fs. All IsSpelled (insert_texts fs)) (sym s.args_are) (All-cons IsSpelled (escaped s.name) (map text_of_value (map spelled_value row)) (s.name, refl) values);
       is_table = s.is_table;
     }
-
--- rows of the same kinds that are spelled alike are of one size
-value_sizes : (v w : Value) → kind_of v ≡ kind_of w → spelled_value v ≡ spelled_value w → value_size v ≡ value_size w
-value_sizes (Int x) (Int y) kinds same = refl
-value_sizes (Word x) (Word y) kinds same = ap (λ t. 4 + length t) (escaped_once x y same)
-value_sizes (Int x) (Word y) kinds same = cc kinds
-value_sizes (Word x) (Int y) kinds same = cc kinds
-
-row_sizes : (a b : List Value) → map kind_of a ≡ map kind_of b → map spelled_value a ≡ map spelled_value b → row_size a ≡ row_size b
-row_sizes [] [] kinds same = refl
-row_sizes [] (w ∷ b) kinds same = cc kinds
-row_sizes (v ∷ a) [] kinds same = cc kinds
-row_sizes (v ∷ a) (w ∷ b) kinds same =
-    let here = value_sizes v w (cons_head kinds) (cons_head same) in
-    let rest = row_sizes a b (cons_tail kinds) (cons_tail same) in
-    omega (arith, sum_by-cons value_size v a, sum_by-cons value_size w b, here, rest)
 
 not_long : (defs : List TableDef) (args : List (List ℕ)) (place : ℕ) (row : List Value) → AreDefs defs → SpellsInsert defs args place row → Stands defs Insert args Long → ⊥
 not_long defs args place row are s (q, others, other, long) =
     let is = into_same defs args (map spelled_value row) s.name place (spelled_into defs args place row are s) q others other in
     let row_of = s.row_is.fits.row_of in
-    let kinds : map kind_of long.row ≡ map kind_of row = long.row_of.kinds ∙ ap (λ p. map (λ c. c.kind) (columns_at defs p)) is.0 ∙ sym row_of.kinds in
-    let size = row_sizes long.row row kinds (sym long.values_are ∙ is.1) in
-    omega (arith, size, long.long, s.row_is.fits.size)
+    let other_of = subst (λ p. IsRowOf (columns_at defs p) long.row) is.0 long.row_of in
+    let same = row_once (columns_at defs place) long.row row other_of.taken row_of.taken other_of.values row_of.values (sym long.values_are ∙ is.1) in
+    omega (arith, ap row_size same, long.long, s.row_is.fits.size)
 
 before_spelled : (defs : List TableDef) (args : List (List ℕ)) (place : ℕ) (row : List Value) → AreDefs defs → SpellsInsert defs args place row → (f : CommandFault) → rank f < 11 → Stands defs Insert args f → ⊥
 before_spelled defs args place row are s f lower stands =

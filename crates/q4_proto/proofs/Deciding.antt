@@ -10,19 +10,21 @@ use Rattle.std.proofs.lemmas.List.{get_or_default}
 use Rattle.std.proofs.lemmas.List.Concat.{flat_map-cons}
 use Rattle.std.proofs.lemmas.Option.{slice_get_cases}
 use Rattle.std.proofs.lemmas.Str.{IsUtf8-from_is_utf8, is_utf8-from_IsUtf8}
+use Rattle.q4_value.specs.declared.column.Column.{Column}
 use Rattle.q4_value.specs.declared.column.Kind.{Kind}
 use Rattle.q4_value.specs.declared.column.Kind.TheVariants as kind
 use Rattle.q4_value.specs.declared.row.Value.{Value}
-use Rattle.q4_value.specs.declared.row.Value.TheVariants.{Int, Word}
+use Rattle.q4_value.specs.declared.row.Value.TheVariants.{Int, Word, Null}
 use Rattle.q4_value.specs.Escape.{escaped, escaped_byte}
-use Rattle.q4_value.specs.Row.{kind_of, IsValue}
+use Rattle.q4_value.specs.Row.{Takes, IsValue}
 use Rattle.q4_value.proofs.EscapeLaws.{escaped_once}
 use Rattle.q4_value.proofs.Runs.{plain_byte}
 use Rattle.q4_machine.proofs.Histories.{cons_head, cons_tail}
 use Rattle.q4_proto.specs.declared.keyword.Keyword.{Keyword}
 use Rattle.q4_proto.specs.declared.keyword.Keyword.TheVariants.{Insert, Source, Wait, RowId, End, Abort, Select, Compact, Quit}
 use Rattle.q4_proto.specs.Fields.{IsSpelled}
-use Rattle.q4_proto.specs.Commands.{word_of, spelled_value}
+use Rattle.q4_proto.specs.Commands.{word_of, null_field, spelled_value, IsNoValue}
+use Rattle.q4_proto.proofs.Spellings.{no_null, no_int, no_words}
 
 -- It holds, or it does not.
 abbrev pub Decided : Type 0 → Type 0
@@ -175,40 +177,47 @@ word_told word = elim (list_told word (word_of Insert)) [
 
 -- ## Values
 
--- the field spells a value of this kind
-abbrev pub SpellsValue : Kind → List ℕ → Type 0
-SpellsValue kind field = (value : Value) × (kind_of value ≡ kind) × IsValue value × (field ≡ spelled_value value)
+-- the field spells a value that the column takes
+abbrev pub SpellsValue : Column → List ℕ → Type 0
+SpellsValue column field = (value : Value) × Takes column value × IsValue value × (field ≡ spelled_value value)
+
+unspelled : (c : Column) (field : List ℕ) → IsNoValue c field → SpellsValue c field → ⊥
+unspelled c field none spells = none spells.0 spells.1 spells.2 spells.3
+
+null_told : (c : Column) (field : List ℕ) (optional : Bool) → c.optional ≡ optional → field ≡ null_field → Decided (SpellsValue c field)
+null_told c field true takes is = inl (Null, takes, tt, is)
+null_told c field false required is = inr (unspelled c field (no_null c field is required))
 
 fits_64 : (z : ℤ) (n : ℕ) → n ≤ 2 ^ 63 - 1 → n < 2 ^ 63
 fits_64 z n most = omega (arith, most)
 
-int_told : (field : List ℕ) → Decided ((n : ℕ) × (n ≤ 2 ^ 63 - 1) × (field ≡ signed_decimal (pos n))) → Decided ((n : ℕ) × (n ≤ 2 ^ 63 - 1) × (field ≡ signed_decimal (negsuc n))) → Decided (SpellsValue kind.Int field)
-int_told field (inl some) negative = inl (Int (pos some.0), refl, record { sfits = fits_64 (pos some.0) some.0 some.1 }, some.2)
-int_told field (inr none) (inl some) = inl (Int (negsuc some.0), refl, record { sfits = fits_64 (negsuc some.0) some.0 some.1 }, some.2)
-int_told field (inr none) (inr other) = inr (λ spells. by_value spells.0 spells.1 spells.2 spells.3) where
+int_told : (c : Column) (field : List ℕ) → c.kind ≡ kind.Int → (field ≢ null_field) → Decided ((n : ℕ) × (n ≤ 2 ^ 63 - 1) × (field ≡ signed_decimal (pos n))) → Decided ((n : ℕ) × (n ≤ 2 ^ 63 - 1) × (field ≡ signed_decimal (negsuc n)))
+    → Decided (SpellsValue c field)
+int_told c field of differs (inl some) negative = inl (Int (pos some.0), of, record { sfits = fits_64 (pos some.0) some.0 some.1 }, some.2)
+int_told c field of differs (inr none) (inl some) = inl (Int (negsuc some.0), of, record { sfits = fits_64 (negsuc some.0) some.0 some.1 }, some.2)
+int_told c field of differs (inr none) (inr other) = inr (unspelled c field (no_int c field of differs by_number)) where
   by_number : (z : ℤ) → FitsSigned w64 z → field ≡ signed_decimal z → ⊥
   by_number (pos n) fits is = none (n, (let small = fits.sfits in omega (arith, small)), is)
   by_number (negsuc n) fits is = other (n, (let small = fits.sfits in omega (arith, small)), is)
 
-  by_value : (value : Value) → kind_of value ≡ kind.Int → IsValue value → field ≡ spelled_value value → ⊥
-  by_value (Int z) kinds fits is = by_number z fits is
-  by_value (Word text) kinds fits is = cc kinds
+words_told : (c : Column) (field : List ℕ) → c.kind ≡ kind.Words → (field ≢ null_field) → Decided (IsSpelled field) → Decided (SpellsValue c field)
+words_told c field of differs (inr bad) = inr (unspelled c field (no_words c field of differs (λ text utf8 short is. bad (text, is))))
+words_told c field of differs (inl spelled) = by_text (text_told spelled.0) (cases_lt 65535 (length spelled.0)) where
+  same : (text : List ℕ) → field ≡ escaped text → text ≡ spelled.0
+  same text is = escaped_once text spelled.0 (sym is ∙ spelled.1)
 
-words_told : (field : List ℕ) → Decided (IsSpelled field) → Decided (SpellsValue kind.Words field)
-words_told field (inr bad) = inr (λ spells. by_value spells.0 spells.1 spells.3) where
-  by_value : (value : Value) → kind_of value ≡ kind.Words → field ≡ spelled_value value → ⊥
-  by_value (Int z) kinds is = cc kinds
-  by_value (Word text) kinds is = bad (text, is)
-words_told field (inl spelled) = by_text (text_told spelled.0) (cases_lt 65535 (length spelled.0)) where
-  same : (value : Value) → kind_of value ≡ kind.Words → IsValue value → field ≡ spelled_value value → IsUtf8 spelled.0 × (length spelled.0 ≤ 65535)
-  same (Int z) kinds fits is = cc kinds
-  same (Word text) kinds fits is = subst (λ t. IsUtf8 t × (length t ≤ 65535)) (escaped_once text spelled.0 (sym is ∙ spelled.1)) fits
+  by_text : Decided (IsUtf8 spelled.0) → (65535 < length spelled.0) ⊎ (length spelled.0 ≤ 65535) → Decided (SpellsValue c field)
+  by_text (inr bad) size = inr (unspelled c field (no_words c field of differs (λ text utf8 short is. bad (subst IsUtf8 (same text is) utf8))))
+  by_text (inl text) (inl long) = inr (unspelled c field (no_words c field of differs (λ other utf8 short is. let count = ap length (same other is) in omega (arith, count, short, long))))
+  by_text (inl text) (inr short) = inl (Word spelled.0, of, (text, short), spelled.1)
 
-  by_text : Decided (IsUtf8 spelled.0) → (65535 < length spelled.0) ⊎ (length spelled.0 ≤ 65535) → Decided (SpellsValue kind.Words field)
-  by_text (inr bad) size = inr (λ spells. bad (same spells.0 spells.1 spells.2 spells.3).0)
-  by_text (inl text) (inl long) = inr (λ spells. let short = (same spells.0 spells.1 spells.2 spells.3).1 in omega (arith, short, long))
-  by_text (inl text) (inr short) = inl (Word spelled.0, refl, (text, short), spelled.1)
+kind_told : (c : Column) (field : List ℕ) (k : Kind) → c.kind ≡ k → (field ≢ null_field) → Decided (SpellsValue c field)
+kind_told c field kind.Int of differs = int_told c field of differs (below_told (λ n. field ≡ signed_decimal (pos n)) (λ n. list_told field (signed_decimal (pos n))) (2 ^ 63 - 1)) (below_told (λ n. field ≡ signed_decimal (negsuc n)) (λ n. list_told field (signed_decimal (negsuc n))) (2 ^ 63 - 1))
+kind_told c field kind.Words of differs = words_told c field of differs (spelled_told field)
 
-pub value_told : (k : Kind) (field : List ℕ) → Decided (SpellsValue k field)
-value_told kind.Int field = int_told field (below_told (λ n. field ≡ signed_decimal (pos n)) (λ n. list_told field (signed_decimal (pos n))) (2 ^ 63 - 1)) (below_told (λ n. field ≡ signed_decimal (negsuc n)) (λ n. list_told field (signed_decimal (negsuc n))) (2 ^ 63 - 1))
-value_told kind.Words field = words_told field (spelled_told field)
+by_field : (c : Column) (field : List ℕ) → Decided (field ≡ null_field) → Decided (SpellsValue c field)
+by_field c field (inl same) = null_told c field c.optional refl same
+by_field c field (inr differs) = kind_told c field c.kind refl differs
+
+pub value_told : (c : Column) (field : List ℕ) → Decided (SpellsValue c field)
+value_told c field = by_field c field (list_told field null_field)

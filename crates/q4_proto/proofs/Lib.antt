@@ -1,4 +1,5 @@
 pub mod Splitting
+pub mod Spellings
 pub mod Values
 pub mod Named
 pub mod Refusing

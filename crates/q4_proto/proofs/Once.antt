@@ -5,7 +5,7 @@ use Rattle.std.proofs.lemmas.List.Elements.{All-head, All-tail}
 use Rattle.q4_value.specs.declared.row.Value.{Value}
 use Rattle.q4_value.specs.declared.row.Value.TheVariants.{Int, Word}
 use Rattle.q4_value.specs.declared.column.Kind.{Kind}
-use Rattle.q4_value.specs.Row.{kind_of, IsValue}
+use Rattle.q4_value.specs.Row.{TakeEach}
 use Rattle.q4_value.proofs.EscapeLaws.{escaped_once}
 use Rattle.q4_cond.specs.Condition.{ReadsAs}
 use Rattle.q4_cond.specs.Reading.{kinds_of}
@@ -23,25 +23,11 @@ use Rattle.q4_proto.specs.declared.keyword.Keyword.{Keyword}
 use Rattle.q4_proto.specs.declared.keyword.Keyword.TheVariants.{Insert, Wait, RowId, End, Abort, Select, Quit}
 use Rattle.q4_proto.specs.Commands.{spelled_value, SpellsInsert, SpellsSelect, entries_of, seconds_of, IsSeconds, SpellsEntry, SpellEntries, SpellsWait, Spells, ReadsLine}
 use Rattle.q4_proto.proofs.Named.{one_place}
+use Rattle.q4_proto.proofs.Spellings.{row_once}
 use Rattle.q4_proto.proofs.Entries.{one_cut}
 use Rattle.q4_proto.proofs.Apart.{word_once}
 
 -- ## Inserts
-
-value_once : (v w : Value) → IsValue v → IsValue w → kind_of v ≡ kind_of w → spelled_value v ≡ spelled_value w → v ≡ w
-value_once (Int x) (Int y) a b kinds same = ap Int (signed_decimal_injective x y a.sfits b.sfits same)
-value_once (Word x) (Word y) a b kinds same = ap Word (escaped_once x y same)
-value_once (Int x) (Word y) a b kinds same = cc kinds
-value_once (Word x) (Int y) a b kinds same = cc kinds
-
-row_once : (a b : List Value) → All IsValue a → All IsValue b → map kind_of a ≡ map kind_of b → map spelled_value a ≡ map spelled_value b → a ≡ b
-row_once [] [] one other kinds same = refl
-row_once [] (w ∷ b) one other kinds same = cc kinds
-row_once (v ∷ a) [] one other kinds same = cc kinds
-row_once (v ∷ a) (w ∷ b) one other kinds same =
-    let here = value_once v w (All-head IsValue v a one) (All-head IsValue w b other) (cons_head kinds) (cons_head same) in
-    let rest = row_once a b (All-tail IsValue v a one) (All-tail IsValue w b other) (cons_tail kinds) (cons_tail same) in
-    ap (λ x. x ∷ a) here ∙ ap (λ xs. w ∷ xs) rest
 
 insert_once : (defs : List TableDef) (args : List (List ℕ)) (p q : ℕ) (a b : List Value) → AreDefs defs → SpellsInsert defs args p a → SpellsInsert defs args q b → (p ≡ q) × (a ≡ b)
 insert_once defs args p q a b are one other =
@@ -50,8 +36,8 @@ insert_once defs args p q a b are one other =
     let place : p ≡ q = one_place defs p q one.name are one.is_table (other.is_table ∙ ap Some (sym name)) in
     let x = one.row_is.fits.row_of in
     let y = other.row_is.fits.row_of in
-    let kinds : map kind_of a ≡ map kind_of b = x.kinds ∙ ap (λ n. kinds_of (columns_at defs n)) place ∙ sym y.kinds in
-    (place, row_once a b x.values y.values kinds (cons_tail lists))
+    let taken = subst (λ n. TakeEach (columns_at defs n) b) (sym place) y.taken in
+    (place, row_once (columns_at defs p) a b x.taken taken x.values y.values (cons_tail lists))
 
 -- ## Waits and selects
 

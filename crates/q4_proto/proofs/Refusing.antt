@@ -14,7 +14,7 @@ use Rattle.q4_proto.specs.declared.command.CommandFault.{CommandFault}
 use Rattle.q4_proto.specs.declared.command.CommandFault.TheVariants.{NotText, Unknown, NotBuilt, Fields, Number, Escape, Entries, NoTable, Cond, Count, Value as BadValue, Long, Memory}
 use Rattle.q4_proto.specs.declared.keyword.Keyword.TheVariants.{Insert}
 use Rattle.q4_proto.specs.Fields.{IsSpelled, IsFirst}
-use Rattle.q4_proto.specs.Commands.{spelled_value, SpellsInsert, IsOfNoTable, IsInsertInto, IsMisspelled, FirstMisspelled, Stands, NoneBefore, IsRefused, ReadsFields}
+use Rattle.q4_proto.specs.Commands.{spelled_value, insert_texts, SpellsInsert, IsOfNoTable, IsInsertInto, IsMisspelled, FirstMisspelled, Stands, NoneBefore, IsRefused, ReadsFields}
 use Rattle.q4_proto.specs.Inner.{ReadsValues}
 use Rattle.q4_proto.proofs.Named.{escaped_name, found_name, found_contained, found_inside, one_place}
 use Rattle.q4_proto.proofs.Values.{all_at, none_misspelled}
@@ -24,13 +24,13 @@ cons_nil x xs is = cc is
 
 -- ## Before the table is looked for
 
-pub before_table : (defs : List TableDef) (args values : List (List ℕ)) (field : List ℕ) → args ≡ field ∷ values → All IsSpelled args → NoneBefore defs Insert args 7
+pub before_table : (defs : List TableDef) (args values : List (List ℕ)) (field : List ℕ) → args ≡ field ∷ values → All IsSpelled (insert_texts args) → NoneBefore defs Insert args 7
 before_table defs args values field is spelled NotText lower stands = stands
 before_table defs args values field is spelled Unknown lower stands = stands
 before_table defs args values field is spelled NotBuilt lower stands = stands
 before_table defs args values field is spelled Fields lower stands = cons_nil field values (sym is ∙ stands)
 before_table defs args values field is spelled (Number k) lower stands = stands
-before_table defs args values field is spelled (Escape k) lower stands = stands.holds (all_at IsSpelled args stands.before stands.after stands.found spelled stands.cut)
+before_table defs args values field is spelled (Escape k) lower stands = stands.holds (all_at IsSpelled (insert_texts args) stands.before stands.after stands.found spelled stands.cut)
 before_table defs args values field is spelled Entries lower stands = stands
 before_table defs args values field is spelled (NoTable k) lower stands = let none : ⊥ = omega (arith, lower) in absurd none
 before_table defs args values field is spelled (Cond entry why) lower stands = let none : ⊥ = omega (arith, lower) in absurd none
@@ -50,7 +50,7 @@ no_table_first defs args values field is none = record {
   holds = none;
 }
 
-pub no_table : (defs : List TableDef) (args values : List (List ℕ)) (field : List ℕ) → args ≡ field ∷ values → All IsSpelled args → IsOfNoTable defs Insert field → IsRefused defs Insert args (NoTable 1)
+pub no_table : (defs : List TableDef) (args values : List (List ℕ)) (field : List ℕ) → args ≡ field ∷ values → All IsSpelled (insert_texts args) → IsOfNoTable defs Insert field → IsRefused defs Insert args (NoTable 1)
 no_table defs args values field is spelled none = record { stands = no_table_first defs args values field is none; first = before_table defs args values field is spelled }
 
 -- ## The table is there
@@ -59,7 +59,7 @@ no_table defs args values field is spelled none = record { stands = no_table_fir
 pub record Into (defs : List TableDef) (args values : List (List ℕ)) (field : List ℕ) (place : ℕ) : Type 0 where
   pub are : AreDefs defs
   pub args_are : args ≡ field ∷ values
-  pub spelled : All IsSpelled args
+  pub spelled : All IsSpelled (insert_texts args)
   pub is_table : slice_get (names_of defs) place ≡ Some field
 
 named : (defs : List TableDef) (args values : List (List ℕ)) (field : List ℕ) (place : ℕ) → Into defs args values field place → escaped field ≡ field

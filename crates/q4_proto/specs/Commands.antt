@@ -2,13 +2,12 @@
 use Rattle.std.specs.Prelude.{None, ◌≡◌, ◌≢◌, ◌==◌, ◌<◌, ◌≤◌, ◌-◌, ◌⊎◌, ◌++◌, ◌∷◌, [], ℕ, List, Option, Some, Result, Ok, Err, Contains, codes, decimal, length, map, take, slice_get, slice_index_or, is_some, if◌then◌else◌}
 use Rattle.std.specs.List.{zip, before_first}
 use Rattle.std.specs.Fmt.{signed_decimal}
-use Rattle.std.specs.Str.{IsUtf8}
+use Rattle.std.specs.Str.{IsUtf8, bytes_eq}
 use Rattle.q4_value.specs.declared.column.Column.{Column}
-use Rattle.q4_value.specs.declared.column.Kind.{Kind}
 use Rattle.q4_value.specs.declared.row.Value.{Value}
-use Rattle.q4_value.specs.declared.row.Value.TheVariants.{Int, Word}
+use Rattle.q4_value.specs.declared.row.Value.TheVariants.{Int, Word, Null}
 use Rattle.q4_value.specs.Escape.{escaped}
-use Rattle.q4_value.specs.Row.{row_limit, kind_of, IsValue, IsRowOf, row_size}
+use Rattle.q4_value.specs.Row.{row_limit, Takes, IsValue, IsRowOf, row_size}
 use Rattle.q4_cond.specs.declared.fault.CondFault as cond_fault
 use Rattle.q4_cond.specs.declared.fault.CondFault.TheVariants.{Memory as CondMemory}
 use Rattle.q4_cond.specs.Condition.{ReadsAs}
@@ -39,10 +38,15 @@ word_of Quit = codes "quit"
 
 -- ## What the fields behind the word spell
 
+-- null stands as a backslash and N, which is the spelling of no text
+abbrev pub null_field : List ℕ
+null_field = 92 ∷ 78 ∷ []
+
 -- how a value stands in a field
 abbrev pub spelled_value : Value → List ℕ
 spelled_value (Int number) = signed_decimal number
 spelled_value (Word text) = escaped text
+spelled_value Null = null_field
 
 -- An insert: the name of the table at this place, and a value for each of its columns.
 pub record SpellsInsert (defs : List TableDef) (args : List (List ℕ)) (place : ℕ) (row : List Value) : Type 0 where
@@ -141,9 +145,18 @@ IsBadNumber Wait args field = (digits : List ℕ) × (seconds_of args ≡ Some d
 IsBadNumber Select args field = (name : List ℕ) × (digits : List ℕ) × (args ≡ name ∷ digits ∷ []) × (field ≡ 2) × IsNoNumber 1000 digits
 IsBadNumber _ args field = ⊥
 
+-- the field of a value as one of a text: null has no bad escape, so it counts as the empty text
+abbrev pub text_of_value : List ℕ → List ℕ
+text_of_value field = if bytes_eq field null_field then [] else field
+
+-- the fields of an insert as texts; the table's field is no value, so null has a bad escape there
+abbrev pub insert_texts : List (List ℕ) → List (List ℕ)
+insert_texts [] = []
+insert_texts (table ∷ values) = table ∷ map text_of_value values
+
 -- the fields that are texts, which are all that are no numbers of code 13
 abbrev pub text_fields : Keyword → List (List ℕ) → List (List ℕ)
-text_fields Insert args = args
+text_fields Insert args = insert_texts args
 text_fields Wait args = entries_of args
 text_fields Select args = take 1 args
 text_fields _ args = []
@@ -190,12 +203,12 @@ pub record IsInsertInto (defs : List TableDef) (args : List (List ℕ)) (place :
   pub is_table : slice_get (names_of defs) place ≡ Some name
   pub args_are : args ≡ escaped name ∷ values
 
--- No value of the kind is spelled so.
-abbrev pub IsNoValue : Kind → List ℕ → Type 0
-IsNoValue kind field = (value : Value) → kind_of value ≡ kind → IsValue value → field ≡ spelled_value value → ⊥
+-- No value that the column takes is spelled so.
+abbrev pub IsNoValue : Column → List ℕ → Type 0
+IsNoValue column field = (value : Value) → Takes column value → IsValue value → field ≡ spelled_value value → ⊥
 
 abbrev pub IsMisspelled : Column × List ℕ → Type 0
-IsMisspelled pair = IsNoValue pair.0.kind pair.1
+IsMisspelled pair = IsNoValue pair.0 pair.1
 
 -- There are as many values as columns, and this one, counted from 1, is the first that is none of its column.
 pub record FirstMisspelled (columns : List Column) (values : List (List ℕ)) (column : ℕ) : Type 0 where

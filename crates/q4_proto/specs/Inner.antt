@@ -2,9 +2,8 @@
 use Rattle.std.specs.Prelude.{None, ◌≡◌, ◌≢◌, ◌==◌, ◌⊎◌, ◌++◌, ◌∷◌, [], ℕ, List, Option, Some, Result, Ok, Err, map}
 use Rattle.std.specs.List.{before_first}
 use Rattle.q4_value.specs.declared.column.Column.{Column}
-use Rattle.q4_value.specs.declared.column.Kind.{Kind}
 use Rattle.q4_value.specs.declared.row.Value.{Value}
-use Rattle.q4_value.specs.Row.{kind_of, IsValue, IsRowOf}
+use Rattle.q4_value.specs.Row.{Takes, IsValue, IsRowOf}
 use Rattle.q4_cond.specs.declared.fault.CondFault as cond_fault
 use Rattle.q4_cond.specs.declared.fault.CondFault.TheVariants.{Memory as CondMemory}
 use Rattle.q4_def.specs.declared.table_def.TableDef.{TableDef}
@@ -15,10 +14,10 @@ use Rattle.q4_proto.specs.Commands.{spelled_value, IsNoValue, FirstMisspelled, S
 
 -- ## Values of a row
 
--- the value that the field spells, or none of this kind
-abbrev pub ReadsValue : Kind → List ℕ → Option Value → Type 0
-ReadsValue kind field (Some value) = (kind_of value ≡ kind) × IsValue value × (field ≡ spelled_value value)
-ReadsValue kind field None = IsNoValue kind field
+-- the value that the field spells, or none that the column takes
+abbrev pub ReadsValue : Column → List ℕ → Option Value → Type 0
+ReadsValue column field (Some value) = Takes column value × IsValue value × (field ≡ spelled_value value)
+ReadsValue column field None = IsNoValue column field
 
 -- the row that the values spell, or the first that is none of its column
 abbrev pub ReadsValues : List Column → List (List ℕ) → Result (List Value) CommandFault → Type 0

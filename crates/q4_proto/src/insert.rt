@@ -1,20 +1,21 @@
-ghost use Rattle.std.specs.Prelude.{◌≡◌, ◌<◌, ◌≤◌, ◌^◌, length, All, IfOk};
+ghost use Rattle.std.specs.Prelude.{◌≡◌, ◌<◌, ◌≤◌, ◌^◌, length, All, IfOk, IfSome, IfNone};
+ghost use Rattle.std.specs.Bool.{OnTrue, OnFalse};
 ghost use Rattle.q4_proto.specs.declared.keyword.Keyword.TheVariants as word;
-ghost use Rattle.q4_proto.specs.Fields.{IsSpelled};
-ghost use Rattle.q4_proto.specs.Commands.{ReadsFields};
+ghost use Rattle.q4_proto.specs.Fields.{IsSpelled, IsFirst};
+ghost use Rattle.q4_proto.specs.Commands.{null_field, text_of_value, text_fields, ReadsFields};
 ghost use Rattle.q4_proto.specs.Inner.{ReadsValues, ReadsValue};
 
 use crate::fields::Fields;
 use crate::{Command, CommandFault};
 use q4_def::Defs;
-use q4_value::{Column, EscapeFault, Kind, NoMemory, Row, Value, parse_signed, row_size, unescape};
+use q4_value::{
+    Column, EscapeFault, Kind, NoMemory, ROW_LIMIT, Row, TEXT_LIMIT, Value, is_escaped,
+    parse_signed, row_size, unescape,
+};
 use std::alloc::Global;
 
-// The greatest size of a row in bytes.
-const ROW_LIMIT: u64 = 1_048_576;
-
-// A text has at most so many bytes.
-const TEXT_LIMIT: usize = 65_535;
+// How null stands in the field of a value.
+const NULL: &str = "\\N";
 
 // Reads the fields of an insert: all their escapes first, then the table, the number of values, each value, and the
 // row's size.
@@ -30,7 +31,7 @@ pub(crate) fn read_insert(
     let Some(name) = values.next() else {
         return Err(CommandFault::Fields);
     };
-    if let Some(field) = args.bad_escape() {
+    if let Some(field) = bad_escape(args) {
         return Err(CommandFault::Escape(field));
     }
     let Some(place) = defs.find(name) else {
@@ -53,11 +54,45 @@ pub(crate) fn read_insert(
     Ok(Command::Insert(place, row))
 }
 
+// The place, from 1, of the first field of an insert that has a bad escape. Null has none where it is a value.
+fn bad_escape(args: &Fields) -> Option<u32>
+    requires { length args.now < 2 ^ 32 }
+    ensures some { IfSome result
+        (λ place. IsFirst (λ f. IsSpelled f → ⊥) (text_fields word.Insert args.now) place) }
+    ensures none { IfNone result (All IsSpelled (text_fields word.Insert args.now)) }
+{
+    let mut rest = args.again();
+    let Some(name) = rest.next() else {
+        return None;
+    };
+    if !is_escaped(name) {
+        return Some(1);
+    }
+    let mut place = 1;
+    while let Some(field) = rest.next() {
+        place += 1;
+        if !is_value_escaped(field) {
+            return Some(place);
+        }
+    }
+    None
+}
+
+// Whether the field of a value is null or the spelling of a text.
+fn is_value_escaped(field: &str) -> bool
+    ensures spelled { OnTrue result (IsSpelled (text_of_value field.now)) }
+    ensures bad { OnFalse result (IsSpelled (text_of_value field.now) → ⊥) }
+{
+    if field == NULL {
+        return true;
+    }
+    is_escaped(field)
+}
+
 // Reads a value for each column.
 fn read_values(alloc: Global, columns: &[Column], values: &Fields) -> Result<Row, CommandFault>
     requires same { length values.now ≡ length columns.now }
     requires few { length columns.now ≤ 32 }
-    requires spelled { All IsSpelled values.now }
     ensures { ReadsValues columns.now values.now result }
 {
     let mut rest = values.again();
@@ -66,7 +101,7 @@ fn read_values(alloc: Global, columns: &[Column], values: &Fields) -> Result<Row
         let Some(field) = rest.next() else {
             unreachable!()
         };
-        let Some(value) = read_value(alloc, column.kind, field)? else {
+        let Some(value) = read_value(alloc, column, field)? else {
             return Err(CommandFault::Value(place as u32 + 1));
         };
         match row.push(value) {
@@ -77,12 +112,14 @@ fn read_values(alloc: Global, columns: &[Column], values: &Fields) -> Result<Row
     Ok(row)
 }
 
-// The value of this kind that the field spells; none where it spells none.
-fn read_value(alloc: Global, kind: Kind, field: &str) -> Result<Option<Value>, NoMemory>
-    requires { IsSpelled field.now }
-    ensures { IfOk result (ReadsValue kind field.now) }
+// The value that the column takes and the field spells; none where it spells none.
+fn read_value(alloc: Global, column: &Column, field: &str) -> Result<Option<Value>, NoMemory>
+    ensures { IfOk result (ReadsValue column.now field.now) }
 {
-    match kind {
+    if field == NULL {
+        return Ok(null_of(column));
+    }
+    match column.kind {
         Kind::Int => match parse_signed(field.as_bytes()) {
             Some(number) => Ok(Some(Value::Int(number))),
             None => Ok(None),
@@ -98,5 +135,16 @@ fn read_value(alloc: Global, kind: Kind, field: &str) -> Result<Option<Value>, N
             }
             Ok(Some(Value::Word(words)))
         }
+    }
+}
+
+// Null, where the column takes it.
+fn null_of(column: &Column) -> Option<Value>
+    ensures { ReadsValue column.now null_field result }
+{
+    if column.optional {
+        Some(Value::Null)
+    } else {
+        None
     }
 }

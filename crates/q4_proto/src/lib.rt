@@ -19,4 +19,6 @@ pub use laws::{every_line_is_answered, one_command, one_fault, spelled_lines_are
 pub use reply::{Code, Outcome, put_reply, put_reply_behind, refusal_of};
 
 #[cfg(test)]
+mod null_tests;
+#[cfg(test)]
 mod tests;

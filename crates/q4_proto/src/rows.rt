@@ -65,6 +65,7 @@ fn put_value<W: Sink>(reply: &mut Pieces, sink: &mut W, value: &Value)
             reply.put(sink, digits.format(*number).as_bytes());
         }
         Value::Word(words) => put_escaped(reply, sink, words.as_str().as_bytes()),
+        Value::Null => reply.put(sink, b"\\N"),
     }
 }
 

@@ -14,7 +14,7 @@ use std::process::Abort;
 use std::test::*;
 
 // A reply is one write: the second write of the sink fails, and nothing of it is there.
-fn check_reply(rt: &impl Abort, alloc: Global, outcome: &Outcome, wanted: &[u8])
+pub(crate) fn check_reply(rt: &impl Abort, alloc: Global, outcome: &Outcome, wanted: &[u8])
     requires { IsOutcome (told outcome.now) }
 {
     let mut sink = MemorySink::new(alloc, &[2]).expect(rt, "memory");
@@ -98,7 +98,7 @@ fn replies_behind_labels(rt: HostRuntime) {
 }
 
 // Puts the value behind those of the row.
-fn add_value(rt: &impl Abort, row: &mut Row, value: Value)
+pub(crate) fn add_value(rt: &impl Abort, row: &mut Row, value: Value)
     ensures { row.new ≡ row.old ++ value ∷ [] }
 {
     match row.push(value) {
@@ -107,7 +107,7 @@ fn add_value(rt: &impl Abort, row: &mut Row, value: Value)
     }
 }
 
-fn add_words(rt: &impl Abort, alloc: Global, row: &mut Row, text: &str)
+pub(crate) fn add_words(rt: &impl Abort, alloc: Global, row: &mut Row, text: &str)
     ensures { row.new ≢ [] }
 {
     match Words::new(alloc, text) {
@@ -116,7 +116,7 @@ fn add_words(rt: &impl Abort, alloc: Global, row: &mut Row, text: &str)
     }
 }
 
-fn add_row(rt: &impl Abort, rows: &mut Rows, number: u64, row: Row)
+pub(crate) fn add_row(rt: &impl Abort, rows: &mut Rows, number: u64, row: Row)
     ensures { rows.new ≡ rows.old ++ record { number = number; row = row } ∷ [] }
 {
     match rows.push(NumberedRow { number, row }) {
@@ -546,7 +546,7 @@ const REFUSED: [(&[u8], CommandFault, &[u8]); 73] = [
     ),
 ];
 
-fn check_refusal(rt: &impl Abort, alloc: Global, code: Code, wanted: &[u8])
+pub(crate) fn check_refusal(rt: &impl Abort, alloc: Global, code: Code, wanted: &[u8])
     requires { IsCode code }
 {
     check_reply(rt, alloc, &Outcome::Refused(code), wanted);

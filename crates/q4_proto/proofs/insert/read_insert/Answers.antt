@@ -1,10 +1,8 @@
-use Rattle.std.proofs.Common.{◌≡◌, ◌≤◌, ◌∙◌, Ok, Err, All, length, sym, ap, subst, arith}
+use Rattle.std.proofs.Common.{◌≡◌, ◌≤◌, ◌∙◌, Ok, Err, length, sym, ap, subst, arith}
 use Rattle.std.specs.List.{Contains}
-use Rattle.std.proofs.lemmas.List.Elements.{All-tail}
 use Rattle.q4_value.proofs.Rows.{small_row}
 use Rattle.q4_def.specs.Tables.{names_of}
 use Rattle.q4_machine.specs.Definitions.{columns_at}
-use Rattle.q4_proto.specs.Fields.{IsSpelled}
 use Rattle.q4_proto.specs.declared.command.CommandFault.TheVariants as fault
 use Rattle.q4_proto.specs.declared.keyword.Keyword.TheVariants as word
 use Rattle.q4_proto.specs.Commands.{IsRefused}
@@ -26,10 +24,6 @@ returns-then-count-columns c =
     let columns : columns_at c.args.defs.now c.in-Some-find.place ≡ c.as_slice-columns.result.now = columns_are c.args.defs.now c.in-Some-find.place c.in-Some-table.def.now (sym c.in-Some-table.ensures.lookup) ∙ sym c.as_slice-columns.ensures in
     let refused = wrong_count c.args.defs.now c.args.args.now c.next.new.self c.in-Some.name.now c.in-Some-find.place into (λ same. c.if-count-columns.true (c.count.ensures ∙ same ∙ ap length columns)) in
     subst (λ cs. IsRefused c.args.defs.now word.Insert c.args.args.now (fault.Count (length cs))) columns refused
-
-pub read_values-requires-clause-spelled : goal.read_values-requires-clause-spelled
-read_values-requires-clause-spelled c =
-    All-tail IsSpelled c.in-Some.name.now c.next.new.self (subst (All IsSpelled) (sym c.again-values.ensures ∙ c.in-Some.ensures.some) c.in_default-bad_escape.ensures.none)
 
 pub returns-in-Err : goal.returns-in-Err
 returns-in-Err c =
