@@ -6,7 +6,8 @@ use Rattle.std.proofs.Math.ListN.{get_or-eq_default}
 use Rattle.std.proofs.lemmas.List.Elements.{All-nil, All-map, All-take, All-filter, All-weaker, All-get_or}
 use Rattle.q4_value.specs.declared.column.Column.{Column}
 use Rattle.q4_value.specs.declared.row.Value.{Value}
-use Rattle.q4_value.specs.Row.{Fits, kind_of}
+use Rattle.q4_value.specs.Row.{Fits}
+use Rattle.q4_value.proofs.Rows.{as_many}
 use Rattle.q4_table.specs.declared.rows.StoredRow.{StoredRow}
 use Rattle.q4_table.specs.Valid.{IsColumns, IsValidTable}
 use Rattle.q4_machine.specs.declared.entry.Entry.{Entry}
@@ -33,9 +34,9 @@ some_session (Some s) is = (s, refl)
 
 row_not_empty : (columns : List Column) (row : List Value) → IsColumns columns → Fits columns row → row ≢ []
 row_not_empty columns row are fits none =
-    let same : length (map kind_of row) ≡ length (map (λ (c : Column). c.kind) columns) = ap length fits.row_of.kinds in
+    let same = as_many columns row fits.row_of.taken in
     let empty : length row ≡ 0 = ap length none in
-    absurd (omega (arith, are.some, empty, same, length-map row kind_of, length-map columns (λ (c : Column). c.kind)))
+    absurd (omega (arith, are.some, empty, same))
 
 rows_not_empty : (tables : List Opening) → AreValidTables tables → (place : ℕ) → All (λ (r : StoredRow). r.row ≢ []) (table_at tables place).rows
 rows_not_empty tables valid place = elim (cases_lt place (length tables)) [
