@@ -190,6 +190,49 @@ const RUNS: [(&[u8], usize, &[u8], &[u8], u8); 8] = [
     (b"", 4_194_303, b"", b"err\t61\tpartial line\n", 6),
 ];
 
+const OPTIONAL: &[u8] = b"[[table]]\nname = \"t\"\ncolumns = [\"n int null\", \"s text null\"]\n";
+
+// A line over the table of optional columns, and its reply.
+const NULLS: [(&[u8], &[u8]); 14] = [
+    (b"insert\tt\t\\N\ta\n", b"ok\t1\n"),
+    (b"insert\tt\t0\t\\N\n", b"ok\t2\n"),
+    (b"wait\tt:not n>5\t=0\n", b"ok\t1\n"),
+    (b"rowid\n", b"ok\t2\n"),
+    (b"select\tt\t9\n", b"rows\t1\nrow\t2\t0\t\\N\n"),
+    (b"abort\n", b"ok\n"),
+    (b"wait\tt:s='a' and n=n\t=0\n", b"ok\t0\n"),
+    (b"wait\tt:s<>'a' or n<0\t=0\n", b"ok\t0\n"),
+    (b"insert\tt\t\\N\t\\Nx\n", b"err\t14\tbad escape\t3\n"),
+    (b"insert\tt\t1\t\\\\N\n", b"ok\t3\n"),
+    (b"insert\tt\t\\N\t\\N\n", b"ok\t4\n"),
+    (b"insert\tt\t\tx\n", b"err\t22\tbad value\t1\n"),
+    (b"abort\n", b"ok\n"),
+    (
+        b"select\tt\t9\n",
+        b"rows\t4\nrow\t1\t\\N\ta\nrow\t2\t0\t\\N\nrow\t3\t1\t\\\\N\nrow\t4\t\\N\t\\N\n",
+    ),
+];
+
+#[test]
+fn nulls(rt: HostRuntime) {
+    let alloc = rt.alloc();
+    let mut input = Vec::new(alloc);
+    let mut replies = Vec::new(alloc);
+    for (line, reply) in NULLS {
+        append(&rt, &mut input, line);
+        append(&rt, &mut replies, reply);
+    }
+    let mut source = at_once(&rt, alloc, &input);
+    let mut definitions = at_once(&rt, alloc, OPTIONAL);
+    let done = run_tool(&rt, alloc, &["run"], &mut source, &mut definitions, &[]);
+    check_done(&rt, &done, &replies, 0);
+    // No column of the built-in table takes null.
+    let mut source = at_once(&rt, alloc, b"insert\tjobs\t\\N\ta\n");
+    let mut definitions = at_once(&rt, alloc, b"");
+    let done = run_tool(&rt, alloc, &["run"], &mut source, &mut definitions, &[]);
+    check_done(&rt, &done, b"err\t22\tbad value\t1\n", 0);
+}
+
 #[test]
 fn runs(rt: HostRuntime) {
     let alloc = rt.alloc();
