@@ -324,6 +324,45 @@ transcript 'the oldest row that meets the condition' 0 run <<'END'
 < ok|0
 END
 
+table t 'n int null' 's text null'
+transcript 'nulls' 0 run <<'END'
+> insert|t|\N|a
+< ok|1
+> insert|t|0|\N
+< ok|2
+> wait|t:not n>5|=0
+< ok|1
+> rowid
+< ok|2
+> select|t|9
+< rows|1
+< row|2|0|\N
+> abort
+< ok
+> wait|t:s='a' and n=n|=0
+< ok|0
+> insert|t|\N|\Nx
+< err|14|bad escape|3
+> insert|\N|1|a
+< err|14|bad escape|1
+> insert|t|1|\\N
+< ok|3
+> end
+< ok
+> select|t|9
+< rows|3
+< row|1|\N|a
+< row|2|0|\N
+< row|3|1|\\N
+END
+
+transcript 'a null in a column that takes none' 0 run <<'END'
+> insert|jobs|\N|a
+< err|22|bad value|1
+> insert|jobs|1|\N
+< err|22|bad value|2
+END
+
 table hot 'prio int'
 table jobs 'prio int' 'body text'
 transcript 'the earliest entry that has a row' 0 run <<'END'
