@@ -1,6 +1,7 @@
 pub mod Numbers
 pub mod Rows
 pub mod Fitting
+pub mod Wider
 pub mod Spelled
 pub mod ReadingLaws
 pub mod Runs

@@ -46,6 +46,19 @@ pub record IsRowOf (columns : List Column) (row : List Value) : Type 0 where
   pub taken : TakeEach columns row
   pub values : All IsValue row
 
+-- The wide column takes each value that the other takes: it has its name and its kind, and is optional where that one is.
+pub record IsWider (wide narrow : Column) : Type 0 where
+  pub name : wide.name ≡ narrow.name
+  pub kind : wide.kind ≡ narrow.kind
+  pub optional : IsTrue narrow.optional → IsTrue wide.optional
+
+-- As many columns, each wider than or the same as that of its place.
+abbrev pub AreWider : List Column → List Column → Type 0
+AreWider [] [] = Unit {0}
+AreWider [] (d ∷ ds) = ⊥
+AreWider (c ∷ cs) [] = ⊥
+AreWider (c ∷ cs) (d ∷ ds) = IsWider c d × AreWider cs ds
+
 -- 8 for a number, 4 and its bytes for a text, nothing for a null
 abbrev pub value_size : Value → ℕ
 value_size (Int number) = 8

@@ -1,5 +1,7 @@
-ghost use Rattle.std.specs.Prelude.{◌≡◌, [], ◌∷◌, ◌++◌, length, slice_get, IfOk, IfErr, OnOk, OnErr};
+ghost use Rattle.std.specs.Prelude.{◌≡◌, ◌<◌, false, Some, [], ◌∷◌, ◌++◌, length, slice_get, slice_set, IfOk, IfErr, OnOk, OnErr};
 ghost use Rattle.std.specs.Option.{option_copied};
+ghost use Rattle.q4_value.specs.declared.column.Column.{Column as Header};
+ghost use Rattle.q4_value.specs.Row.{AreWider};
 
 use crate::{Column, NoMemory};
 use std::alloc::Global;
@@ -40,6 +42,16 @@ impl Columns {
             Ok(()) => Ok(()),
             Err(refused) => Err((refused.value, NoMemory)),
         }
+    }
+
+    /// Has the column at this place, counted from 0, take no null.
+    pub fn require(&mut self, place: usize)
+        requires { place < length self.old }
+        ensures required { (column : Header) → slice_get self.old place ≡ Some column
+            → self.new ≡ slice_set self.old place (record column { optional = false }) }
+        ensures narrower { AreWider self.old self.new }
+    {
+        self.columns[place].optional = false;
     }
 
     /// How many columns there are.

@@ -6,7 +6,8 @@ ghost use Rattle.q4_value.specs.declared.column.Column.{Column as Header};
 ghost use Rattle.q4_value.specs.declared.fit.RowFault.{RowFault as Misfit};
 ghost use Rattle.q4_value.specs.declared.reading.RowBytes.{RowBytes as ReadFault};
 ghost use Rattle.q4_value.specs.declared.row.Value.{Value as Field};
-ghost use Rattle.q4_value.specs.Row.{IsRowOf, row_size as size_of, Fits};
+ghost use Rattle.q4_value.specs.Row.{IsRowOf, AreWider, row_size as size_of, Fits};
+ghost use Rattle.q4_value.specs.Names.{AreColumns};
 ghost use Rattle.q4_value.specs.Fit.{Misfits};
 ghost use Rattle.q4_value.specs.Spelling.{row_bytes, optional_count};
 ghost use Rattle.q4_value.specs.Reading.{FirstUnreadable};
@@ -18,6 +19,21 @@ pub fn fit_laws()
     ensures apart { (columns : List Header) (row : List Field) (why : Misfit) → Fits columns row → Misfits columns row why → ⊥ }
     // A row has one fault at most.
     ensures one_fault { (columns : List Header) (row : List Field) (one other : Misfit) → Misfits columns row one → Misfits columns row other → one ≡ other }
+{}
+
+/// Laws of columns that take what other columns take.
+pub fn wider_laws()
+    // Columns are as wide as themselves.
+    ensures same { (columns : List Header) → AreWider columns columns }
+    // A row of columns is a row of wider ones.
+    ensures rows { (wide narrow : List Header) (row : List Field) → AreWider wide narrow
+        → IsRowOf narrow row → IsRowOf wide row }
+    // A row that fits columns fits wider ones.
+    ensures fit { (wide narrow : List Header) (row : List Field) → AreWider wide narrow
+        → Fits narrow row → Fits wide row }
+    // What is narrower than columns of a table is columns of a table too.
+    ensures columns { (wide narrow : List Header) → AreWider wide narrow
+        → AreColumns wide → AreColumns narrow }
 {}
 
 /// Laws of rows as bytes.

@@ -18,7 +18,7 @@ pub use column::{Column, Kind};
 pub use columns::Columns;
 pub use escaping::{EscapeFault, escape, is_escaped, unescape};
 pub use fit::{ROW_LIMIT, RowFault, fits, row_size};
-pub use laws::{escape_laws, fit_laws, row_laws};
+pub use laws::{escape_laws, fit_laws, row_laws, wider_laws};
 pub use number::{parse_signed, parse_unsigned};
 pub use reading::{RowBytes, read_row};
 pub use row::{Row, TEXT_LIMIT, Value};

@@ -428,19 +428,20 @@ fn bad_escapes(rt: HostRuntime) {
 
 #[test]
 fn copies(rt: HostRuntime) {
-    let fields = [Number(-3), Text("b"), Text("")];
+    let fields = [Number(-3), Text("b"), Text(""), Nothing];
     let row = row_of(&rt, rt.alloc(), &fields)
         .copy(rt.alloc())
         .expect(&rt, "memory");
     assert!(rt; same_row(&row, &fields));
-    assert!(rt; row.at(3).is_none());
+    assert!(rt; row.at(4).is_none());
 
-    let columns = columns_of(&rt, rt.alloc(), &[INT, TEXT]);
-    let copied = columns.copy(rt.alloc()).expect(&rt, "memory");
+    let columns = columns_of(&rt, rt.alloc(), &[INT_OR_NULL, TEXT_OR_NULL]);
+    let mut copied = columns.copy(rt.alloc()).expect(&rt, "memory");
     assert_eq!(rt; copied.len(), 2);
-    for (place, kind) in [Kind::Int, Kind::Words].iter().enumerate() {
+    copied.require(1);
+    for (place, wanted) in [INT_OR_NULL, TEXT].iter().enumerate() {
         let column = copied.at(place).expect(&rt, "a column");
-        assert_eq!(rt; column.kind, *kind);
+        assert_eq!(rt; (column.kind, column.optional), *wanted);
         assert_eq!(rt; column.name.as_str(), "c");
     }
     assert!(rt; copied.at(2).is_none());
