@@ -9,7 +9,7 @@ use Rattle.q4_cond.specs.declared.tree.Token.TheVariants.{Operand, Sign, Not, Op
 use Rattle.q4_cond.specs.Tree.{Tree, Simple, Two, NotOf, MinusOf, level_of, left_level, right_level}
 use Rattle.q4_cond.specs.Grammar.{Phrase, atom, group, minus, inverse, both, looser}
 use Rattle.q4_cond.specs.Shown.{atom_text, sign_text}
-use Rattle.q4_cond.proofs.Steps.{levels}
+use Rattle.q4_cond.proofs.ReaderSteps.{levels}
 use Rattle.q4_cond.proofs.Sound.{loosen}
 
 -- the level of the phrase that a tree is, with no parentheses around it

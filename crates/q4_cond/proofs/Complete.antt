@@ -13,7 +13,7 @@ use Rattle.q4_cond.specs.declared.tree.Frame.TheVariants.{Pending, Inverting, Ne
 use Rattle.q4_cond.specs.Tree.{Tree, NotOf, MinusOf, level_of, left_level, right_level, postfix}
 use Rattle.q4_cond.specs.Grammar.{Phrase, atom, group, minus, inverse, both, looser}
 use Rattle.q4_cond.specs.Machine.{Wants, Has, frame_level, wanted_level, frame_node, open_count, opened, pending, grouped, step, run}
-use Rattle.q4_cond.proofs.Steps.{run_then, run_step, levels, AtLeastAll, tight_weaken, tight_push, kept-tight, closed-tight, kept_stays, closed_none, top_below}
+use Rattle.q4_cond.proofs.ReaderSteps.{run_then, run_step, levels, AtLeastAll, tight_weaken, tight_push, kept-tight, closed-tight, kept_stays, closed_none, top_below}
 
 -- the tokens are read over the frames fs and the nodes out: frames stay that close into the tree's last nodes
 pub record Reads (n l : ℕ) (fs : List Frame) (out : List Node) (ts : List Token) (t : Tree) : Type 0 where

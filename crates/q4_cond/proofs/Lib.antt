@@ -1,4 +1,4 @@
-pub mod Steps
+pub mod ReaderSteps
 pub mod Complete
 pub mod Sound
 pub mod Verdicts
@@ -15,3 +15,4 @@ pub mod Cutting
 pub mod Measuring
 pub mod Rereading
 pub mod Uniqueness
+pub mod Operands

@@ -14,7 +14,7 @@ use Rattle.q4_cond.specs.Machine.{State, Wants, step, run, StepSays}
 use Rattle.q4_cond.specs.Tokens.{Placed, bare, tokens_from, token_here, bytes_behind, front_of, names_of}
 use Rattle.q4_cond.specs.Reading.{atom_here, atom_places, unknown_here, first_unknown, IsAt, IsDeep}
 use Rattle.q4_cond.specs.Scanned.{Scanned, first_of}
-use Rattle.q4_cond.proofs.Steps.{run_then, run_step}
+use Rattle.q4_cond.proofs.ReaderSteps.{run_then, run_step}
 use Rattle.q4_cond.proofs.Sound.{run_begins}
 use Rattle.q4_cond.proofs.Verdicts.{refused_within, refused_all, taken_begins}
 

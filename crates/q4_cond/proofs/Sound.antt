@@ -14,7 +14,7 @@ use Rattle.q4_cond.specs.declared.tree.Frame.TheVariants.{Pending, Inverting, Ne
 use Rattle.q4_cond.specs.Tree.{Tree, NotOf, MinusOf, level_of, left_level, right_level, postfix}
 use Rattle.q4_cond.specs.Grammar.{Phrase, atom, group, minus, inverse, both, looser, whole, BeginsWithin}
 use Rattle.q4_cond.specs.Machine.{State, Wants, Has, frame_level, wanted_level, frame_node, open_count, kept_frames, closed_nodes, opened, signed, pending, grouped, step, run, ended, accepted}
-use Rattle.q4_cond.proofs.Steps.{run_then, run_step, levels, AtLeastAll, tight_push, kept-tight}
+use Rattle.q4_cond.proofs.ReaderSteps.{run_then, run_step, levels, AtLeastAll, tight_push, kept-tight}
 
 -- the tokens so far, where an operand is wanted: they left these frames and nodes
 pub data Before (n : ℕ) : List Frame → List Node → List Token → Type 0 where

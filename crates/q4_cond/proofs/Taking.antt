@@ -13,7 +13,7 @@ use Rattle.q4_cond.specs.declared.tree.Frame.{Frame}
 use Rattle.q4_cond.specs.declared.tree.Frame.TheVariants.{Inverting, Negating, Group}
 use Rattle.q4_cond.specs.declared.reader.Step.{Step}
 use Rattle.q4_cond.specs.declared.reader.Step.TheVariants.{Taken, Refused, TooDeep}
-use Rattle.q4_cond.proofs.Steps.{TopBelow, kept_stays, closed_none}
+use Rattle.q4_cond.proofs.ReaderSteps.{TopBelow, kept_stays, closed_none}
 use Rattle.q4_cond.specs.Machine.{State, Wants, Has, frame_level, wanted_level, open_count, kept_frames, closed_nodes, opened, step, state_of, StepSays, OpenSays}
 
 pub open_deep : (f : Frame) (fs : List Frame) (out : List Node) → 32 ≤ open_count fs → (opened 32 f fs out ≡ None) × (n : ℕ) × (32 ≤ n) × (opened n f fs out ≡ Some (Wants (f ∷ fs) out))

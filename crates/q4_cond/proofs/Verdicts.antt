@@ -14,7 +14,7 @@ use Rattle.q4_cond.specs.Postfix.{tree_of}
 use Rattle.q4_cond.specs.Condition.{tree_of-postfix}
 use Rattle.q4_cond.specs.Grammar.{Phrase, IsCondition, nothing, whole, BeginsWithin, Begins}
 use Rattle.q4_cond.specs.Machine.{State, Wants, Has, wanted_level, open_count, closed_nodes, opened, signed, step, run, ended, accepted}
-use Rattle.q4_cond.proofs.Steps.{run-append, run_then, run_step, kept-tight, closed-tight}
+use Rattle.q4_cond.proofs.ReaderSteps.{run-append, run_then, run_step, kept-tight, closed-tight}
 use Rattle.q4_cond.proofs.Complete.{complete}
 use Rattle.q4_cond.proofs.Sound.{Before, start, run_sound, run_begins, Accepts, accepted_sound, cond_some, cond_opened}
 

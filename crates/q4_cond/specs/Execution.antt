@@ -1,5 +1,5 @@
 -- The value of a condition, node by node. No public clause cites it.
-use Rattle.std.specs.Prelude.{List, [], ◌∷◌, Bool, true, map, reverse}
+use Rattle.std.specs.Prelude.{ℕ, ◌+◌, ◌-◌, List, [], ◌∷◌, Bool, true, map, reverse, max}
 use Rattle.q4_value.specs.declared.row.Value.{Value}
 use Rattle.q4_cond.specs.declared.tree.Node.{Node}
 use Rattle.q4_cond.specs.declared.tree.Node.TheVariants.{Leaf, Binary, Inverted, Negated}
@@ -34,3 +34,15 @@ execute row (n ∷ ns) ms = execute row ns (execute_node row n ms)
 abbrev pub verdict : List Meaning → Bool
 verdict [] = true
 verdict (m ∷ ms) = is_true m
+
+-- how many operands are complete behind a node, where so many were before it
+abbrev pub count_after : Node → ℕ → ℕ
+count_after (Leaf a) n = n + 1
+count_after (Binary op) n = n - 1
+count_after Inverted n = n
+count_after Negated n = n
+
+-- the most operands that are complete at once, where so many are at first
+abbrev pub most_operands : List Node → ℕ → ℕ
+most_operands [] n = n
+most_operands (x ∷ xs) n = max n (most_operands xs (count_after x n))

@@ -1,4 +1,5 @@
-ghost use Rattle.std.specs.Prelude.{◌≡◌, ◌≤◌, ℕ, List, length, IfOk, MatchResult};
+ghost use Rattle.std.specs.Prelude.{◌≡◌, ◌≤◌, ◌+◌, ℕ, List, length, IfOk, MatchResult};
+ghost use Rattle.std.specs.Bool.{Decides};
 ghost use Rattle.q4_cond.specs.Condition.{ReadsAs, IsShowable};
 ghost use Rattle.q4_cond.specs.Reading.{kinds_of, IsRead, IsFault};
 ghost use Rattle.q4_cond.specs.Values.{meets};
@@ -7,13 +8,16 @@ ghost use Rattle.q4_cond.specs.Shown.{condition_text};
 
 use crate::CondFault;
 use crate::kinds::first_misplaced;
+use crate::same::same_nodes;
 use crate::scan::scan_text;
+use crate::steps::Steps;
 use crate::tree::{Atom, Node};
-use crate::value::execute;
+use crate::value::{execute, most_operands};
 use crate::writing::write_nodes;
 use q4_value::{Bytes, Column, Kind, NoMemory, Row, Words};
 use std::alloc::Global;
 use std::marker::Model;
+use std::sync::ledger::Ledger;
 
 /// The most bytes that a condition's text may have.
 const LONGEST: usize = 1024;
@@ -24,6 +28,8 @@ pub struct Cond {
     /// The tree in postfix order; none for the empty condition.
     nodes: Vec<Node>,
     kinds: Vec<Kind>,
+    /// The most operands that are complete at once while the nodes are executed.
+    operands: usize,
 }
 
 impl Model for Cond {
@@ -31,6 +37,7 @@ impl Model for Cond {
     ghost use Rattle.std.specs.Coded.{coded×, coded_list};
     ghost use Rattle.q4_cond.specs.Condition.{Condition, condition_code};
     ghost use Rattle.q4_cond.specs.Postfix.{tree_of, nodes_of};
+    ghost use Rattle.q4_cond.specs.Execution.{most_operands};
     ghost use Rattle.q4_cond.specs.contracts.tree.Node as node;
     ghost use Rattle.q4_value.specs.contracts.column.Kind as kind;
 
@@ -40,7 +47,7 @@ impl Model for Cond {
 
     ghost view = { λ c. record { tree = tree_of c.nodes.items; kinds = c.kinds.items } };
 
-    ghost invariant = { λ c. (nodes_of (tree_of c.nodes.items) ≡ c.nodes.items) × (length c.nodes.items ≤ 1024) };
+    ghost invariant = { λ c. (nodes_of (tree_of c.nodes.items) ≡ c.nodes.items) × (length c.nodes.items ≤ 1024) × (c.operands ≡ most_operands c.nodes.items 0) };
 }
 
 impl Atom {
@@ -116,7 +123,18 @@ impl Cond {
     {
         let nodes = copy_nodes(alloc, &self.nodes)?;
         let kinds = copy_kinds(alloc, &self.kinds)?;
-        Ok(Cond { nodes, kinds })
+        Ok(Cond {
+            nodes,
+            kinds,
+            operands: self.operands,
+        })
+    }
+
+    /// Whether the condition has the tree of the other. Their texts may differ in spaces and parentheses.
+    pub fn has_tree_of(&self, other: &Cond) -> bool
+        ensures { Decides result (self.now.tree ≡ other.now.tree) }
+    {
+        same_nodes(&self.nodes, &other.nodes)
     }
 }
 
@@ -142,19 +160,34 @@ pub fn read(alloc: Global, text: &str, columns: &[Column]) -> Result<Cond, CondF
     if let Some(place) = first_misplaced(&kinds, &nodes, &atoms) {
         return Err(CondFault::Kinds(place));
     }
-    Ok(Cond { nodes, kinds })
+    let operands = most_operands(&nodes);
+    Ok(Cond {
+        nodes,
+        kinds,
+        operands,
+    })
 }
 
 /// Whether the row meets the condition: its value is present and not 0. It takes no memory, and looks at each part
 /// of the condition once. For a row that fits the columns of the reading, the value is that of the document on formats.
-pub fn met(cond: &Cond, row: &Row) -> bool
+/// Each call is one step.
+pub fn met<L: Ledger>(cond: &Cond, row: &Row, steps: &mut Steps<L>) -> bool
+    ensures met { result ≡ meets row.now cond.now.tree }
+    ensures counted { steps.new ≡ steps.old + 1 }
+{
+    steps.count_one();
+    holds(cond, row)
+}
+
+// The stack has room for the operands that the condition needs, since its places are filled before it is used.
+fn holds(cond: &Cond, row: &Row) -> bool
     ensures { result ≡ meets row.now cond.now.tree }
 {
     let nodes = cond.nodes.as_slice();
-    if nodes.len() <= 16 {
-        execute::<16>(nodes, row)
-    } else if nodes.len() <= 128 {
-        execute::<128>(nodes, row)
+    if cond.operands <= 4 {
+        execute::<4>(nodes, row)
+    } else if cond.operands <= 32 {
+        execute::<32>(nodes, row)
     } else {
         execute::<1024>(nodes, row)
     }

@@ -7,7 +7,9 @@ mod frames;
 mod kinds;
 mod laws;
 mod reader;
+mod same;
 mod scan;
+mod steps;
 mod token;
 mod tree;
 mod value;
@@ -16,6 +18,7 @@ mod writing;
 pub use cond::{Cond, met, read, show};
 pub use fault::CondFault;
 pub use laws::{one_answer, one_tree};
+pub use steps::{CondLedger, Steps, cond_steps};
 
 #[cfg(test)]
 mod tests;

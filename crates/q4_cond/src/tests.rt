@@ -240,16 +240,21 @@ fn rows_meet_conditions(rt: HostRuntime) -> Result<(), Fail> {
         ("n <= 2 and n < 3 and n > 1 and n <> 3", 0, "", 2, true),
     ];
     let columns = columns(rt.alloc(), false)?;
+    let mut steps = cond_steps();
     for (text, prio, body, n, expected) in cases {
         let Ok(cond) = read(rt.alloc(), text, &columns) else {
             return Err(Fail::from(text));
         };
         let row = row(rt.alloc(), Some(prio), Some(body), n)?;
-        assert_eq!(rt; met(&cond, &row), expected, "{text}");
+        assert_eq!(rt; met(&cond, &row, &mut steps), expected, "{text}");
         let Ok(copied) = cond.copy(rt.alloc()) else {
             return Err(Fail::from(text));
         };
-        assert_eq!(rt; met(&copied, &row), expected, "a copy of {text}");
+        assert_eq!(rt;
+            met(&copied, &row, &mut steps),
+            expected,
+            "a copy of {text}"
+        );
     }
     Ok(())
 }
@@ -288,12 +293,77 @@ fn nulls_are_absent(rt: HostRuntime) -> Result<(), Fail> {
         ("body='a' and n=n", None, Some("a"), 0, true),
     ];
     let columns = columns(rt.alloc(), true)?;
+    let mut steps = cond_steps();
     for (text, prio, body, n, expected) in cases {
         let Ok(cond) = read(rt.alloc(), text, &columns) else {
             return Err(Fail::from(text));
         };
         let row = row(rt.alloc(), prio, body, n)?;
-        assert_eq!(rt; met(&cond, &row), expected, "{text}");
+        assert_eq!(rt; met(&cond, &row, &mut steps), expected, "{text}");
+    }
+    Ok(())
+}
+
+/// `n` in so many sums within one another: `(n+(n+0))` for 2.
+fn nested_sums(alloc: Global, times: u32) -> Result<String, Fail> {
+    let mut text = repeated(alloc, "(n+", times, "0")?;
+    for _ in 0..times {
+        text.push_str(")")?;
+    }
+    text.push_str("=n*")?;
+    Ok(text)
+}
+
+#[test]
+fn operands_have_room_at_every_depth(rt: HostRuntime) -> Result<(), Fail> {
+    let columns = columns(rt.alloc(), false)?;
+    let mut steps = cond_steps();
+    for (times, end) in [
+        (2, "2"),
+        (3, "3"),
+        (4, "4"),
+        (30, "30"),
+        (31, "31"),
+        (32, "32"),
+    ] {
+        let mut text = nested_sums(rt.alloc(), times)?;
+        text.push_str(end)?;
+        let Ok(cond) = read(rt.alloc(), text.as_str(), &columns) else {
+            return Err(Fail::from(end));
+        };
+        assert!(rt;
+            met(&cond, &row(rt.alloc(), None, None, 7)?, &mut steps),
+            "{end}"
+        );
+    }
+    Ok(())
+}
+
+#[test]
+fn conditions_of_one_tree_are_told(rt: HostRuntime) -> Result<(), Fail> {
+    let cases = [
+        ("", " ", true),
+        ("", "n", false),
+        ("prio>=5", "(prio) >= 5", true),
+        ("prio>=5", "prio>=6", false),
+        ("prio>=5", "n>=5", false),
+        ("prio>=5", "prio>5", false),
+        ("body='a'", "body = ('a')", true),
+        ("body='a'", "body='b'", false),
+        ("n", "n and n", false),
+        ("1 or (n or 2)", "1 or n or 2", false),
+        ("(1 or n) or 2", "1 or n or 2", true),
+        ("not n", "-n", false),
+    ];
+    let columns = columns(rt.alloc(), false)?;
+    for (text, with, expected) in cases {
+        let (Ok(cond), Ok(other)) = (
+            read(rt.alloc(), text, &columns),
+            read(rt.alloc(), with, &columns),
+        ) else {
+            return Err(Fail::from(text));
+        };
+        assert_eq!(rt; cond.has_tree_of(&other), expected, "{text} and {with}");
     }
     Ok(())
 }

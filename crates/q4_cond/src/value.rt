@@ -2,7 +2,7 @@
 ghost use Rattle.std.specs.Prelude.{◌≡◌, ◌<◌, ◌≤◌, ◌+◌, ◌+ℤ◌, ◌-ℤ◌, ◌*ℤ◌, neg_ℤ, [], ◌∷◌, length, MatchOption};
 ghost use Rattle.arrayvec.specs.ArrayVec.{array_vec_len};
 ghost use Rattle.q4_cond.specs.Values.{in_range, quotient, remainder, number, truth, is_zero, is_true, is_absent, and_of, or_of, not_of, minus_of, two_of, cell, atom_of, Whole};
-ghost use Rattle.q4_cond.specs.Execution.{meaning_of, meanings, execute_node, execute, verdict};
+ghost use Rattle.q4_cond.specs.Execution.{meaning_of, meanings, execute_node, execute, verdict, count_after, most_operands};
 
 use crate::tree::{Atom, Node, Operator};
 use arrayvec::ArrayVec;
@@ -240,9 +240,9 @@ fn execute_node<'a, const N: usize>(
     node: &'a Node,
     row: &'a Row,
 )
-    requires { array_vec_len stack.old < N }
+    requires { count_after node.now (array_vec_len stack.old) ≤ N }
     ensures done { meanings stack.new.items ≡ execute_node row.now node.now (meanings stack.old.items) }
-    ensures len { array_vec_len stack.new ≤ array_vec_len stack.old + 1 }
+    ensures len { array_vec_len stack.new ≡ count_after node.now (array_vec_len stack.old) }
 {
     match node {
         Node::Leaf(atom) => push(stack, atom_operand(atom, row)),
@@ -268,9 +268,36 @@ fn execute_node<'a, const N: usize>(
     }
 }
 
+/// How many operands are complete behind a node.
+fn count_after(node: &Node, count: usize) -> usize
+    requires { count ≤ 1024 }
+    ensures { result ≡ count_after node.now count }
+{
+    match node {
+        Node::Leaf(_) => count + 1,
+        Node::Binary(_) => count.saturating_sub(1),
+        Node::Inverted | Node::Negated => count,
+    }
+}
+
+/// The most operands that are complete at once while the nodes are executed.
+pub fn most_operands(nodes: &[Node]) -> usize
+    requires { length nodes.now ≤ 1024 }
+    ensures most { result ≡ most_operands nodes.now 0 }
+    ensures few { result ≤ 1024 }
+{
+    let mut count = 0;
+    let mut most = 0;
+    for node in nodes {
+        count = count_after(node, count);
+        most = count.max(most);
+    }
+    most
+}
+
 /// Whether the value of these nodes is present and not 0, on a stack of room for N operands.
 pub fn execute<'a, const N: usize>(nodes: &'a [Node], row: &'a Row) -> bool
-    requires room { length nodes.now ≤ N }
+    requires room { most_operands nodes.now 0 ≤ N }
     requires small { N ≤ 1024 }
     ensures { result ≡ verdict (execute row.now nodes.now []) }
 {

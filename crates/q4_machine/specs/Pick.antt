@@ -1,6 +1,7 @@
 -- Which row a look takes.
-use Rattle.std.specs.Prelude.{◌+◌, ℕ, List, [], ◌∷◌, Option, None, Some}
-use Rattle.q4_table.specs.Oldest.{oldest_meeting}
+use Rattle.std.specs.Prelude.{◌+◌, ℕ, List, [], ◌∷◌, Option, None, Some, length}
+use Rattle.q4_table.specs.Oldest.{oldest_meeting, unowned_to}
+use Rattle.q4_table.specs.TableState.{TableState}
 use Rattle.q4_machine.specs.declared.looks.Listed.{Listed}
 use Rattle.q4_machine.specs.declared.tables.Opening.{Opening}
 use Rattle.q4_machine.specs.Machine.{MachineState, table_at}
@@ -23,3 +24,17 @@ pick_from tables place (l ∷ ls) = pick_or place l.table (oldest_meeting (table
 -- such row there.
 abbrev pub pick : MachineState → List Listed → Option Picked
 pick m list = pick_from m.tables 1 list
+
+-- how many rows without an owner stand in a table, up to the one that a look finds there, and behind it those of the
+-- tables that are looked through where it finds none
+abbrev pub asked_to : TableState → Option ℕ → ℕ → ℕ
+asked_to table (Some number) others = length (unowned_to table.rows 1 (Some number))
+asked_to table None others = length (unowned_to table.rows 1 None) + others
+
+abbrev pub asked_from : List Opening → List Listed → ℕ
+asked_from tables [] = 0
+asked_from tables (l ∷ ls) = asked_to (table_at tables l.table) (oldest_meeting (table_at tables l.table).rows l.cond.tree) (asked_from tables ls)
+
+-- how often a look asks whether a row meets a condition, at most: of each listed table, up to the one that gives a row
+abbrev pub most_asked : MachineState → List Listed → ℕ
+most_asked m list = asked_from m.tables list

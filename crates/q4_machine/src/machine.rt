@@ -1,11 +1,11 @@
-ghost use Rattle.std.specs.Prelude.{◌≡◌, ◌<◌, ◌≤◌, ◌^◌, ◌↔◌, ◌||◌, [], true, false, Some, None, All, length, filter, is_none, is_some, map, take, IsTrue, IfSome, IfOk, IfErr, OnOk, OnErr};
+ghost use Rattle.std.specs.Prelude.{◌≡◌, ◌<◌, ◌≤◌, ◌+◌, ◌^◌, ◌↔◌, ◌||◌, [], true, false, Some, None, All, length, filter, is_none, is_some, map, take, IsTrue, IfSome, IfOk, IfErr, OnOk, OnErr};
 ghost use Rattle.std.specs.Option.{option_map, ForSome};
 ghost use Rattle.q4_table.specs.Adding.{check_of, IsRefused};
 ghost use Rattle.q4_machine.specs.declared.entry.Call.TheVariants as call;
 ghost use Rattle.q4_machine.specs.declared.entry.Reply.TheVariants as reply;
 ghost use Rattle.q4_machine.specs.Definitions.{definitions, IsRowFor, IsListed};
 ghost use Rattle.q4_machine.specs.Machine.{mode_of, in_mode, with_mode, without_session, session_in, table_at, IsSessionOpen};
-ghost use Rattle.q4_machine.specs.Pick.{pick, pick_from};
+ghost use Rattle.q4_machine.specs.Pick.{pick, pick_from, asked_from, most_asked};
 ghost use Rattle.q4_machine.specs.Step.{step, look_reply, end_reply, abort_reply, row_reply, insert_reply, owned_row, shown, numbered};
 ghost use Rattle.q4_machine.specs.Valid.{AreValidTables, IsValid};
 ghost use Rattle.q4_machine.specs.History.{AreUnowned};
@@ -13,10 +13,12 @@ ghost use Rattle.q4_machine.specs.Found.{picked_of};
 
 use crate::select::{shown_row, unowned_rows};
 use crate::{Listed, Looks, OpenSession, Opening, Refusal, Rows, SessionMode, Tables};
+use q4_cond::Steps;
 use q4_table::{AddFault, Added, Check, Table};
 use q4_value::{NoMemory, Row};
 use std::alloc::Global;
 use std::marker::Model;
+use std::sync::ledger::Ledger;
 
 /// Session numbers stay below this one.
 const SESSION_LIMIT: u64 = 1 << 62;
@@ -136,13 +138,20 @@ impl Machine {
     /// Takes the oldest unowned row that meets the condition of the earliest entry of the list that has one, and tells
     /// that entry's place, from 1. Without one it changes nothing where the time is not `over`; where it is, the session
     /// is in owner mode without a row.
-    pub fn look(&mut self, session: u64, list: &Looks, over: bool) -> Option<u32>
+    pub fn look<L: Ledger>(
+        &mut self,
+        session: u64,
+        list: &Looks,
+        over: bool,
+        steps: &mut Steps<L>,
+    ) -> Option<u32>
         requires mode { mode_of self.old session ≡ Some SessionMode.NonOwner }
         requires listed { All (IsListed (definitions self.old.tables)) list.now }
         ensures step { (is_some result || over) ≡ true → step self.old session (call.Look list.now) ≡ (self.new, look_reply result) }
         ensures waits { (is_some result || over) ≡ false → (self.new ≡ self.old) × (pick self.old list.now ≡ None) }
+        ensures asked { steps.new ≤ steps.old + most_asked self.old list.now }
     {
-        match oldest_listed(&self.tables, list.as_slice()) {
+        match oldest_listed(&self.tables, list.as_slice(), steps) {
             Some(found) => {
                 let opening = &mut self.tables[found.table as usize];
                 opening.table.own(found.number, session);
@@ -306,13 +315,19 @@ struct Found {
 }
 
 // The oldest unowned row that meets the condition of the earliest entry of the list that has one.
-fn oldest_listed(tables: &[Opening], list: &[Listed]) -> Option<Found>
+fn oldest_listed<L: Ledger>(
+    tables: &[Opening],
+    list: &[Listed],
+    steps: &mut Steps<L>,
+) -> Option<Found>
     requires listed { All (IsListed (definitions tables.now)) list.now }
     requires short { length list.now < 2 ^ 32 }
-    ensures { option_map picked_of result ≡ pick_from tables.now 1 list.now }
+    ensures found { option_map picked_of result ≡ pick_from tables.now 1 list.now }
+    ensures asked { steps.new ≤ steps.old + asked_from tables.now list.now }
 {
     for (i, listed) in list.iter().enumerate() {
-        if let Some(number) = tables[listed.table as usize].table.oldest(&listed.cond) {
+        let table = &tables[listed.table as usize].table;
+        if let Some(number) = table.oldest(&listed.cond, steps) {
             return Some(Found {
                 place: i as u32 + 1,
                 table: listed.table,

@@ -12,6 +12,7 @@ ghost use Rattle.q4_machine.specs.Recorded.{pushed, answered, opened_new, entry_
 use crate::{
     Call, DeskFault, Entry, InsertFault, Looks, Machine, Refusal, Reply, Rows, SessionMode, Tables,
 };
+use q4_cond::cond_steps;
 use q4_def::Defs;
 use q4_table::{AddFault, Added};
 use q4_value::{NoMemory, Row};
@@ -165,7 +166,7 @@ impl RecordedMachine {
         ensures sound { IsSound self.new.seen }
         ensures defined { definitions_of self.new.seen ≡ definitions_of self.old.seen }
     {
-        let place = self.machine.look(session, &list, over);
+        let place = self.machine.look(session, &list, over, &mut cond_steps());
         if ends_wait(place, over) {
             self.history
                 .push_reserved(entry(session, Call::Look(list), look_outcome(place)));

@@ -17,7 +17,7 @@ use Rattle.q4_cond.specs.Tokens.{Placed, bare, tokens_of, names_of}
 use Rattle.q4_cond.specs.Grammar.{IsCondition, nothing, whole}
 use Rattle.q4_cond.specs.Machine.{State, Wants, Has, wanted_level, open_count, kept_frames, closed_nodes, opened, pending, grouped, step, run, accepted}
 use Rattle.q4_cond.specs.Reading.{StopsAt, DeepAt, first_unknown, kinds_of, first_marked, misplaced_in, atom_places, Spells, IsRead, IsFault}
-use Rattle.q4_cond.proofs.Steps.{run_then, run_step}
+use Rattle.q4_cond.proofs.ReaderSteps.{run_then, run_step}
 use Rattle.q4_cond.proofs.Sound.{run_begins}
 use Rattle.q4_cond.proofs.Verdicts.{refused_within, refused_all, taken_begins, unended, ended_condition, unbegun}
 

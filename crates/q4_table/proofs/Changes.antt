@@ -1,14 +1,10 @@
 -- What a change of one row does to the rows of a table.
-use Rattle.std.proofs.Common.{◌≡◌, ◌≢◌, ◌==◌, ◌<◌, ◌∙◌, ◌∷◌, ◌++◌, [], List, ℕ, Bool, true, false, cond, Option, Some, not, set, get_or, length, append-nil, refl, sym, ap, arith}
-use Rattle.std.specs.List.{remove}
+use Rattle.std.proofs.Common.{◌≡◌, ◌≢◌, ◌==◌, ◌∙◌, ◌∷◌, ◌++◌, [], List, ℕ, Bool, true, false, cond, Option, Some, not, append-nil, refl, ap, arith}
 use Rattle.std.proofs.lemmas.Bool.{ne_eqb, eq-eqb}
 use Rattle.std.proofs.lemmas.List.Elements.{filter-append}
 use Rattle.q4_table.specs.declared.rows.StoredRow.{StoredRow}
-use Rattle.q4_table.specs.Adding.{number_limit}
-use Rattle.q4_table.specs.Place.{IsPlace}
-use Rattle.q4_table.specs.Rows.{row_in, IsThere, owned_by, with_owner, without_row, numbers_of}
+use Rattle.q4_table.specs.Rows.{row_in, owned_by, with_owner, without_row, numbers_of}
 use Rattle.q4_table.specs.Valid.{RiseBelow}
-use Rattle.q4_table.proofs.Places.{map_at, without_at, found_here, get_there, there_is}
 use Rattle.q4_table.proofs.Rising.{map_keeps, none_next, rise-filter}
 use Rattle.q4_table.proofs.Lookup.{found_last}
 
@@ -24,23 +20,8 @@ rise-owned low next k owner rows rise = rw (map_keeps number (owned_by k owner) 
 pub rise-removed : (low next k : ℕ) (rows : List StoredRow) → RiseBelow low next (numbers_of rows) → RiseBelow low next (numbers_of (without_row k rows))
 rise-removed low next k rows rise = rise-filter number (λ r. not (r.number == k)) low next rows rise
 
-others_keep : (k : ℕ) (owner : Option ℕ) (r : StoredRow) → number r ≢ k → owned_by k owner r ≡ r
+pub others_keep : (k : ℕ) (owner : Option ℕ) (r : StoredRow) → number r ≢ k → owned_by k owner r ≡ r
 others_keep k owner r other = ap (λ (b : Bool). cond b (record { number = r.number; row = r.row; owner = owner }) r) (ne_eqb r.number k other)
-
--- the row at the place of its number is the one whose owner changes
-pub owner-set : (k i : ℕ) (owner : Option ℕ) (rows : List StoredRow) (r : StoredRow) → RiseBelow 0 number_limit (numbers_of rows) → IsPlace number rows k i → IsThere rows k → i < length rows → r ≡ get_or rows i r
-    → set rows i (record { number = r.number; row = r.row; owner = owner }) ≡ with_owner k owner rows
-owner-set k i owner rows r rise at there inside is =
-    let same : r.number ≡ k = there_is number 0 number_limit k i rows r rise at there inside is in
-    let changed : owned_by k owner r ≡ record { number = r.number; row = r.row; owner = owner } = ap (λ (b : Bool). cond b (record { number = r.number; row = r.row; owner = owner }) r) (eq-eqb r.number k same) in
-    sym (map_at number (owned_by k owner) 0 number_limit k i rows r (others_keep k owner) rise at (get_there i rows r inside is) ∙ ap (set rows i) changed)
-
--- the row at the place of its number is the one that is removed
-pub row-removed : (k i : ℕ) (rows : List StoredRow) (r : StoredRow) → RiseBelow 0 number_limit (numbers_of rows) → IsPlace number rows k i → IsThere rows k → i < length rows → r ≡ get_or rows i r
-    → (remove rows i ≡ without_row k rows) × (row_in rows k ≡ Some r)
-row-removed k i rows r rise at there inside is =
-    let same : r.number ≡ k = there_is number 0 number_limit k i rows r rise at there inside is in
-    (sym (without_at number 0 number_limit k i rows r rise at (get_there i rows r inside is) same), found_here number 0 number_limit k i rows r rise at inside is same)
 
 without_next : (low next : ℕ) (rows : List StoredRow) → RiseBelow low next (numbers_of rows) → without_row next rows ≡ rows
 without_next low next [] rise = refl

@@ -6,3 +6,5 @@ pub mod Marking
 pub mod Validity
 pub mod Looks
 pub mod MarkLaws
+pub mod Entries
+pub mod Searching

@@ -8,7 +8,9 @@ use Rattle.std.proofs.lemmas.List.Elements.{All-map, All-filter, All-push, All-w
 use Rattle.std.proofs.lemmas.List.Filters.{length-filter_both, sum_by-filter_both}
 use Rattle.std.proofs.lemmas.List.Sums.{sum_by-cons, sum_by_push}
 use Rattle.q4_value.specs.declared.row.Value.{Value}
-use Rattle.q4_value.specs.Row.{row_size, Fits}
+use Rattle.q4_value.specs.declared.column.Column.{Column}
+use Rattle.q4_value.specs.Row.{AreWider, row_size, Fits}
+use Rattle.q4_value.proofs.Wider.{length-wider, fits-wider}
 use Rattle.q4_table.specs.declared.adding.Check.{Check}
 use Rattle.q4_table.specs.declared.adding.Check.TheVariants as check
 use Rattle.q4_table.specs.declared.origin.Origin.{Origin}
@@ -153,6 +155,21 @@ valid-next table next valid rises limit = record {
   count = valid.count;
   bytes = valid.bytes;
 }
+
+-- rows that fit fit wider columns
+pub valid-wider : (table : TableState) (columns : List Column) → IsValidTable table → AreWider columns table.columns → IsValidTable (record table { columns = columns })
+valid-wider table columns valid wider =
+    let len = length-wider columns table.columns wider in
+    record {
+      columns = record { some = omega (arith, valid.columns.some, len); few = omega (arith, valid.columns.few, len) };
+      begins = valid.begins;
+      limit = valid.limit;
+      numbers = valid.numbers;
+      fit = All-weaker (λ (r : StoredRow). Fits table.columns r.row) (λ (r : StoredRow). Fits columns r.row) (λ r fits. fits-wider columns table.columns r.row wider fits) table.rows valid.fit;
+      marks = valid.marks;
+      count = valid.count;
+      bytes = valid.bytes;
+    }
 
 removed_step : (low next k : ℕ) (x : StoredRow) (xs : List StoredRow) (r : StoredRow) → RiseBelow low next (numbers_of (x ∷ xs)) → (b : Bool) → (x.number == k) ≡ b → cond b (Some x) (row_in xs k) ≡ Some r
     → (row_in xs k ≡ Some r → bytes_of (without_row k xs) + size r ≡ bytes_of xs) → bytes_of (cond (not b) (x ∷ without_row k xs) (without_row k xs)) + size r ≡ bytes_of (x ∷ xs)

@@ -5,3 +5,5 @@ pub mod Adding
 pub mod Valid
 pub mod Oldest
 pub mod Place
+pub mod Numbered
+pub mod Searching

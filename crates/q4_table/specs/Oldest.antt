@@ -1,5 +1,5 @@
 -- Which row a look takes of a table.
-use Rattle.std.specs.Prelude.{◌≡◌, ◌≤◌, ◌&&◌, ℕ, Bool, List, Option, None, Some, IsSomeAnd, IsTrue, All, filter, is_none}
+use Rattle.std.specs.Prelude.{◌≡◌, ◌≤◌, ◌+◌, ◌&&◌, ℕ, Bool, List, Option, None, Some, IsSomeAnd, IsTrue, All, filter, length, is_none, nat_le}
 use Rattle.q4_cond.specs.Tree.{Tree}
 use Rattle.q4_cond.specs.Values.{meets}
 use Rattle.q4_table.specs.declared.rows.StoredRow.{StoredRow}
@@ -27,3 +27,16 @@ pub record IsOldest (rows : List StoredRow) (tree : Option Tree) (number : ℕ) 
 abbrev pub TakesOldest : List StoredRow → Option Tree → Option ℕ → Type 0
 TakesOldest rows tree (Some number) = IsOldest rows tree number
 TakesOldest rows tree None = All (λ r. IsFree tree r → ⊥) rows
+
+-- The number lies from one number on, and up to that of the row that was found, if one was.
+abbrev pub is_looked_at : ℕ → Option ℕ → ℕ → Bool
+is_looked_at from None number = nat_le from number
+is_looked_at from (Some last) number = nat_le from number && nat_le number last
+
+-- the rows without an owner from a number on, up to the row that a look found
+abbrev pub unowned_to : List StoredRow → ℕ → Option ℕ → List StoredRow
+unowned_to rows from found = filter (λ r. is_none r.owner && is_looked_at from found r.number) rows
+
+-- A look from a number on asks at most once of each row without an owner, up to the row that it found.
+abbrev pub IsAsked : List StoredRow → ℕ → Option ℕ → ℕ → ℕ → Type 0
+IsAsked rows from found before after = after ≤ before + length (unowned_to rows from found)

@@ -1,15 +1,18 @@
-ghost use Rattle.std.specs.Prelude.{◌≡◌, ◌<◌, ◌≤◌, [], ◌∷◌, ◌++◌, Some, length, find, IfOk, IfErr, OnOk, OnErr};
+ghost use Rattle.std.specs.Prelude.{◌≡◌, ◌<◌, ◌+◌, [], ◌∷◌, ◌++◌, length, find, IfOk, IfErr, OnOk, OnErr};
 ghost use Rattle.std.specs.Option.{option_copied, option_map};
+ghost use Rattle.std.specs.BTreeMap.{values};
 ghost use Rattle.q4_table.specs.Adding.{number_limit};
 ghost use Rattle.q4_table.specs.Rows.{row_in, IsThere, with_owner, without_row, numbers_of, least_from as least_of};
-ghost use Rattle.q4_table.specs.Oldest.{is_free, oldest_meeting};
+ghost use Rattle.q4_table.specs.Oldest.{is_free, oldest_meeting, IsAsked};
+ghost use Rattle.q4_table.specs.Searching.{asked};
 ghost use Rattle.q4_table.specs.Valid.{RiseBelow};
-ghost use Rattle.q4_table.specs.Place.{IsPlace};
 
-use q4_cond::{Cond, met};
+use q4_cond::{Cond, Steps, met};
 use q4_value::{NoMemory, Row};
 use std::alloc::Global;
+use std::collections::BTreeMap;
 use std::marker::Model;
+use std::sync::ledger::Ledger;
 
 /// A row of a table, with its number and the session that owns it.
 #[derive(Drop)]
@@ -31,24 +34,23 @@ impl StoredRow {
     }
 }
 
-/// The rows of a table, by rising number. A contract sees the list.
+/// The rows of a table, under their numbers. A contract sees the list of them, by rising number.
 #[derive(Drop)]
 pub struct Rows {
-    rows: Vec<StoredRow>,
+    rows: BTreeMap<u64, StoredRow>,
 }
 
 impl Model for Rows {
     ghost use Rattle.std.specs.Prelude.{List};
+    ghost use Rattle.std.specs.BTreeMap.{values};
     ghost use Rattle.q4_table.specs.declared.rows.StoredRow.{StoredRow as Element};
-    ghost use Rattle.q4_table.specs.Adding.{number_limit};
-    ghost use Rattle.q4_table.specs.Rows.{numbers_of};
-    ghost use Rattle.q4_table.specs.Valid.{RiseBelow};
+    ghost use Rattle.q4_table.specs.Numbered.{IsNumbered};
 
     ghost Value = { List Element };
 
-    ghost view = { λ r. r.rows.items };
+    ghost view = { λ r. values r.rows };
 
-    ghost invariant = { λ r. RiseBelow 0 number_limit (numbers_of r.rows.items) };
+    ghost invariant = { λ r. IsNumbered r.rows.entries };
 }
 
 impl Rows {
@@ -57,7 +59,7 @@ impl Rows {
         ensures { result ≡ [] }
     {
         Rows {
-            rows: Vec::new(alloc),
+            rows: BTreeMap::new(alloc),
         }
     }
 
@@ -68,38 +70,27 @@ impl Rows {
         self.rows.len()
     }
 
-    // How many rows have lesser numbers.
-    fn place_of(&self, number: u64) -> usize
-        ensures { IsPlace (λ r. r.number) self.now number result }
-    {
-        self.rows.partition_point(|stored| stored.number < number)
-    }
-
     /// The row with this number, if there is one.
     pub fn get(&self, number: u64) -> Option<&StoredRow>
         ensures { option_copied result ≡ row_in self.now number }
     {
-        let stored = self.rows.get(self.place_of(number))?;
-        if stored.number == number {
-            Some(stored)
-        } else {
-            None
-        }
+        self.rows.get(&number)
     }
 
     /// The least number that is at least this one.
     pub fn least_from(&self, number: u64) -> Option<u64>
         ensures { result ≡ least_of self.now number }
     {
-        let stored = self.rows.get(self.place_of(number))?;
-        Some(stored.number)
+        let (least, _) = self.rows.range(number..).next()?;
+        Some(*least)
     }
 
     /// The number of the oldest row that nobody owns and that meets the condition.
-    pub fn oldest(&self, cond: &Cond) -> Option<u64>
-        ensures { result ≡ oldest_meeting self.now cond.now.tree }
+    pub fn oldest<L: Ledger>(&self, cond: &Cond, steps: &mut Steps<L>) -> Option<u64>
+        ensures oldest { result ≡ oldest_meeting self.now cond.now.tree }
+        ensures asked { IsAsked self.now 1 result steps.old steps.new }
     {
-        first_free(&self.rows, cond)
+        first_free(&self.rows, cond, steps)
     }
 
     /// Puts a row behind the others, whose numbers are lesser. A refusal gives it back.
@@ -111,9 +102,9 @@ impl Rows {
         ensures kept { OnErr result (self.new ≡ self.old) }
         ensures given_back { IfErr result (λ fault. fault.0 ≡ stored) }
     {
-        match self.rows.push(stored) {
-            Ok(()) => Ok(()),
-            Err(refused) => Err((refused.value, NoMemory)),
+        match self.rows.insert(stored.number, stored) {
+            Ok(_) => Ok(()),
+            Err(refused) => Err((refused.value.1, NoMemory)),
         }
     }
 
@@ -122,8 +113,9 @@ impl Rows {
         requires { IsThere self.old number }
         ensures { self.new ≡ with_owner number owner self.old }
     {
-        let place = self.place_of(number);
-        self.rows[place].owner = owner;
+        if let Some(stored) = self.rows.get_mut(&number) {
+            stored.owner = owner;
+        }
     }
 
     /// Removes a row, and gives it.
@@ -132,31 +124,40 @@ impl Rows {
         ensures rest { self.new ≡ without_row number self.old }
         ensures removed { row_in self.old number ≡ Some result }
     {
-        let place = self.place_of(number);
-        self.rows.remove(place)
+        self.rows.remove(&number).unwrap()
     }
 
     /// The same rows, in memory of their own.
     pub fn copy(&self, alloc: Global) -> Result<Rows, NoMemory>
         ensures { IfOk result (λ rows. rows ≡ self.now) }
     {
-        let mut rows = Vec::new(alloc);
-        for stored in &self.rows {
+        let mut rows = Rows::new(alloc);
+        for stored in self.rows.values() {
             let stored = stored.copy(alloc)?;
             if rows.push(stored).is_err() {
                 return Err(NoMemory);
             }
         }
-        Ok(Rows { rows })
+        Ok(rows)
     }
 }
 
-// The number of the first row that nobody owns and that meets the condition.
-fn first_free(rows: &[StoredRow], cond: &Cond) -> Option<u64>
-    ensures { result ≡ option_map (λ r. r.number) (find (is_free cond.now.tree) rows.now) }
+// The number of the first row that nobody owns and that meets the condition. Those before it are asked once each.
+fn first_free<L: Ledger>(
+    rows: &BTreeMap<u64, StoredRow>,
+    cond: &Cond,
+    steps: &mut Steps<L>,
+) -> Option<u64>
+    ensures found { result ≡ option_map (λ r. r.number) (find (is_free cond.now.tree) (values rows.now)) }
+    ensures asked { steps.new ≡ steps.old + asked cond.now.tree (values rows.now) }
 {
-    let stored = rows
-        .iter()
-        .find(|stored| stored.owner.is_none() && met(cond, &stored.row))?;
-    Some(stored.number)
+    for stored in rows.values() {
+        if stored.owner.is_some() {
+            continue;
+        }
+        if met(cond, &stored.row, steps) {
+            return Some(stored.number);
+        }
+    }
+    None
 }

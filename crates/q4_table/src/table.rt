@@ -1,11 +1,11 @@
 ghost use Rattle.std.specs.Prelude.{◌≡◌, ◌<◌, ◌≤◌, None, Some, length, IfOk, IfErr, OnOk, OnErr, option_and_then};
 ghost use Rattle.std.specs.Option.{option_copied, ForSome};
-ghost use Rattle.q4_value.specs.Row.{Fits};
+ghost use Rattle.q4_value.specs.Row.{AreWider, Fits};
 ghost use Rattle.q4_cond.specs.Reading.{kinds_of};
 ghost use Rattle.q4_table.specs.TableState.{new_table};
 ghost use Rattle.q4_table.specs.Rows.{values_in, owner_in, IsThere, IsUnowned, IsOwned, with_owner, without_row, least_from, bytes_of};
 ghost use Rattle.q4_table.specs.Marks.{mark_of, with_mark};
-ghost use Rattle.q4_table.specs.Oldest.{oldest_meeting};
+ghost use Rattle.q4_table.specs.Oldest.{oldest_meeting, IsAsked};
 ghost use Rattle.q4_table.specs.Adding.{number_limit, source_limit, IsOrigin, was_seen as number_was_seen, check_of, room_for, IsAdded, IsRefused, with_added};
 ghost use Rattle.q4_table.specs.Valid.{IsColumns, IsValidTable};
 
@@ -13,10 +13,11 @@ use crate::adding::{AddFault, Added, Check};
 use crate::marks::{Mark, Marks};
 use crate::origin::{Mode, Origin};
 use crate::rows::{Rows, StoredRow};
-use q4_cond::Cond;
+use q4_cond::{Cond, Steps};
 use q4_value::{Column, Columns, NoMemory, Row, row_size};
 use std::alloc::Global;
 use std::marker::Model;
+use std::sync::ledger::Ledger;
 
 // Row numbers stay below this one.
 const NUMBER_LIMIT: u64 = 1 << 62;
@@ -170,12 +171,13 @@ impl Table {
     }
 
     /// The number of the oldest row that nobody owns and that meets the condition, which is one on rows of these
-    /// columns.
-    pub fn oldest(&self, cond: &Cond) -> Option<u64>
+    /// columns. It asks at most once of each row that nobody owns, up to the row that it finds.
+    pub fn oldest<L: Ledger>(&self, cond: &Cond, steps: &mut Steps<L>) -> Option<u64>
         requires { cond.now.kinds ≡ kinds_of self.now.columns }
-        ensures { result ≡ oldest_meeting self.now.rows cond.now.tree }
+        ensures oldest { result ≡ oldest_meeting self.now.rows cond.now.tree }
+        ensures asked { IsAsked self.now.rows 1 result steps.old steps.new }
     {
-        self.rows.oldest(cond)
+        self.rows.oldest(cond, steps)
     }
 
     /// Makes a session the owner of a row that nobody owns.
@@ -280,6 +282,14 @@ impl Table {
         ensures { self.new ≡ record self.old { next = number } }
     {
         self.next = number;
+    }
+
+    /// Gives the table wider columns: those that take what its own take, and maybe null.
+    pub fn widen(&mut self, columns: Columns)
+        requires { AreWider columns self.old.columns }
+        ensures { self.new ≡ record self.old { columns = columns } }
+    {
+        self.columns = columns;
     }
 
     /// The same table, in memory of its own.

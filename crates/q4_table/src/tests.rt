@@ -5,14 +5,14 @@ ghost use Rattle.q4_table.specs.Adding.{IsOrigin};
 ghost use Rattle.q4_table.specs.Valid.{IsColumns};
 
 use super::*;
-use q4_cond::read;
+use q4_cond::{cond_steps, read};
 use q4_value::{Column, Columns, Kind, Row, Value, Words, fits};
 use std::alloc::Global;
 use std::process::Abort;
 use std::test::*;
 
-// Columns of these names and kinds, of which there have to be from 1 to 32.
-fn columns_of(rt: &impl Abort, alloc: Global, named: &[(&str, Kind)]) -> Columns
+// Columns of these names and kinds, of which there have to be from 1 to 32. All are optional, or none is.
+fn columns_of(rt: &impl Abort, alloc: Global, named: &[(&str, Kind)], optional: bool) -> Columns
     ensures { IsColumns result }
 {
     let mut columns = Columns::new(alloc);
@@ -23,7 +23,7 @@ fn columns_of(rt: &impl Abort, alloc: Global, named: &[(&str, Kind)]) -> Columns
                 .push(Column {
                     name,
                     kind: *kind,
-                    optional: false
+                    optional
                 })
                 .is_ok()
         );
@@ -35,7 +35,7 @@ fn columns_of(rt: &impl Abort, alloc: Global, named: &[(&str, Kind)]) -> Columns
 // A table with a number `prio` and a text `body`.
 fn jobs(rt: &impl Abort, alloc: Global) -> Table {
     let named = [("prio", Kind::Int), ("body", Kind::Words)];
-    Table::new(alloc, columns_of(rt, alloc, &named))
+    Table::new(alloc, columns_of(rt, alloc, &named, false))
 }
 
 // The row, which has to fit the table.
@@ -71,6 +71,7 @@ fn valid(rt: &impl Abort, origin: Origin) -> Origin
 fn add(rt: &impl Abort, table: &mut Table, row: Row, origin: Option<Origin>, wanted: Check)
     requires row { Fits table.old.columns row }
     requires origin { ForSome origin IsOrigin }
+    ensures { table.new.columns ≡ table.old.columns }
 {
     assert_eq!(rt; table.check(&row, origin), wanted);
     let size = row.len();
@@ -90,7 +91,7 @@ fn add(rt: &impl Abort, table: &mut Table, row: Row, origin: Option<Origin>, wan
 // The oldest free row that meets the condition.
 fn oldest(rt: &impl Abort, alloc: Global, table: &Table, text: &str) -> Option<u64> {
     match read(alloc, text, table.columns()) {
-        Ok(cond) => table.oldest(&cond),
+        Ok(cond) => table.oldest(&cond, &mut cond_steps()),
         Err(_) => panic!(rt; "no condition"),
     }
 }
@@ -340,6 +341,45 @@ fn marks_tell_what_was_seen(rt: HostRuntime) -> Result<(), Fail> {
     Ok(())
 }
 
+// The row of a number or of null, which has to fit the table.
+fn number_row(rt: &impl Abort, alloc: Global, table: &Table, value: Value) -> Row
+    ensures { Fits table.now.columns result }
+{
+    let mut row = Row::new(alloc);
+    assert!(rt; row.push(value).is_ok());
+    fitting(rt, table, row)
+}
+
+#[test]
+fn wider_columns_take_null(rt: HostRuntime) -> Result<(), Fail> {
+    let alloc = rt.alloc();
+    let wide = columns_of(&rt, alloc, &[("n", Kind::Int)], true);
+    assert_eq!(rt; wide.len(), 1);
+    let mut narrow = wide.copy(alloc).expect(&rt, "memory");
+    narrow.require(0);
+    assert_eq!(rt; narrow.len(), 1);
+    let mut table = Table::new(alloc, narrow);
+    let row = number_row(&rt, alloc, &table, Value::Int(7));
+    add(&rt, &mut table, row, None, Check::New);
+    table.widen(wide);
+    let row = number_row(&rt, alloc, &table, Value::Null);
+    add(&rt, &mut table, row, None, Check::New);
+    let steps = [
+        Stored(1, 7, None),
+        Stands(3, 2, 8),
+        Oldest("", Some(1)),
+        Oldest("n=7", Some(1)),
+        Oldest("not n=7", None),
+    ];
+    follow(&rt, alloc, &mut table, &steps);
+    assert!(rt;
+        table
+            .row(2)
+            .is_some_and(|row| matches!(row.at(0), Some(Value::Null)))
+    );
+    Ok(())
+}
+
 // A number that was seen before goes before the numbers, and these before the places.
 #[test]
 fn full_tables_refuse_rows(rt: HostRuntime) -> Result<(), Fail> {
@@ -386,18 +426,14 @@ fn longest_row(rt: &impl Abort, alloc: Global) -> Row {
 fn bytes_of_rows_are_limited(rt: HostRuntime) -> Result<(), Fail> {
     let alloc = rt.alloc();
     let named = [("c", Kind::Words); 16];
-    let mut table = Table::new(alloc, columns_of(&rt, alloc, &named));
+    let mut table = Table::new(alloc, columns_of(&rt, alloc, &named, false));
     let longest = longest_row(&rt, alloc);
     for _ in 0..32 {
-        let Ok(row) = longest.copy(alloc) else {
-            panic!(&rt; "memory");
-        };
+        let row = longest.copy(alloc).expect(&rt, "memory");
         let row = fitting(&rt, &table, row);
         add(&rt, &mut table, row, None, Check::New);
     }
-    let Ok(row) = longest.copy(alloc) else {
-        panic!(&rt; "memory");
-    };
+    let row = longest.copy(alloc).expect(&rt, "memory");
     let row = fitting(&rt, &table, row);
     add(&rt, &mut table, row, None, Check::Bytes(33_554_432));
     // An end makes room for one more.

@@ -1,6 +1,7 @@
-use Rattle.std.proofs.Common.{◌≡◌, ◌≤◌, length, false, subst, arith}
+use Rattle.std.proofs.Common.{◌≡◌, ◌≤◌, length, false, subst, ap, ◌∙◌, arith}
 use Rattle.q4_cond.specs.Postfix.{tree_of}
 use Rattle.q4_cond.specs.Reading.{first_marked, IsRead, IsAt, IsNoColumn, IsKinds}
+use Rattle.q4_cond.specs.Execution.{most_operands}
 use Rattle.q4_cond.specs.Marks.{strays}
 use Rattle.q4_cond.proofs.Finish.{read_at_end, read_no_column, read_kinds, read_ok, read_invariant, marked_parts}
 use Rattle.q4_cond.proofs.cond.read.Goals as goal
@@ -27,11 +28,18 @@ returns-in-Some-first_misplaced c =
     subst (λ t. IsKinds c.args.columns.now t c.in-Some-first_misplaced.place) c.as_bytes-bytes.ensures.value
     (read_kinds c.args.columns.now bytes _ _ _ c.in-Some.nodes.items c.in_ok-kinds.kinds.items c.first_misplaced.result c.in-Some-first_misplaced.place short c.in_ok-scan.ensures.scanned (rw c.in-Some.is at c.in_ok-nodes.ensures) c.in_default-unknown.is c.in_ok-kinds.ensures o c.in-Some-first_misplaced.is)
 
+pub most_operands-operands-requires : goal.most_operands-operands-requires
+most_operands-operands-requires c =
+    let bytes = c.as_bytes-bytes.result.now in
+    let short : length bytes ≤ 1024 = omega arith in
+    rw c.deref-4.ensures.value (read_invariant c.args.columns.now bytes _ _ _ c.in-Some.nodes.items short c.in_ok-scan.ensures.scanned (rw c.in-Some.is at c.in_ok-nodes.ensures)).1
+
 pub invariant_of-result : goal.invariant_of-result
 invariant_of-result c =
     let bytes = c.as_bytes-bytes.result.now in
     let short : length bytes ≤ 1024 = omega arith in
-    read_invariant c.args.columns.now bytes _ _ _ c.in-Some.nodes.items short c.in_ok-scan.ensures.scanned (rw c.in-Some.is at c.in_ok-nodes.ensures)
+    let read = read_invariant c.args.columns.now bytes _ _ _ c.in-Some.nodes.items short c.in_ok-scan.ensures.scanned (rw c.in-Some.is at c.in_ok-nodes.ensures) in
+    (read.0, read.1, c.most_operands-operands.ensures.most ∙ ap (λ ns. most_operands ns 0) c.deref-4.ensures.value)
 
 pub returns : goal.returns
 returns c =

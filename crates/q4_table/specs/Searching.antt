@@ -1,0 +1,10 @@
+-- A search of rows in order. No public clause cites it.
+use Rattle.std.specs.Prelude.{◌+◌, ℕ, List, [], ◌∷◌, Option, is_none, if◌then◌else◌}
+use Rattle.q4_cond.specs.Tree.{Tree}
+use Rattle.q4_cond.specs.Values.{meets}
+use Rattle.q4_table.specs.declared.rows.StoredRow.{StoredRow}
+
+-- how many rows are asked, of those that nobody owns, up to the first that meets the condition
+abbrev pub asked : Option Tree → List StoredRow → ℕ
+asked tree [] = 0
+asked tree (r ∷ rows) = if is_none r.owner then 1 + (if meets r.row tree then 0 else asked tree rows) else asked tree rows
