@@ -7,7 +7,8 @@ use Rattle.std.proofs.lemmas.List.Elements.{All-nil, All-push, All-filter}
 use Rattle.std.proofs.lemmas.List.Sums.{sum_by-append, sum_by-cons}
 use Rattle.q4_value.specs.declared.column.Column.{Column}
 use Rattle.q4_value.specs.declared.row.Value.{Value}
-use Rattle.q4_value.specs.Row.{Fits, row_size}
+use Rattle.q4_value.specs.Row.{AreWider, Fits, row_size}
+use Rattle.q4_value.proofs.Wider.{length-wider}
 use Rattle.q4_table.specs.declared.adding.Check.{Check}
 use Rattle.q4_table.specs.declared.adding.Check.TheVariants as check
 use Rattle.q4_table.specs.declared.origin.Origin.{Origin}
@@ -18,7 +19,7 @@ use Rattle.q4_table.specs.Marks.{with_mark}
 use Rattle.q4_table.specs.Adding.{IsOrigin, room_for, number_limit, count_limit, bytes_limit}
 use Rattle.q4_table.specs.Valid.{IsColumns, IsMark}
 use Rattle.q4_table.proofs.Marking.{marks-with}
-use Rattle.q4_table.proofs.Validity.{valid-added, valid-marked, valid-next, valid-removed}
+use Rattle.q4_table.proofs.Validity.{valid-added, valid-marked, valid-next, valid-removed, valid-wider}
 use Rattle.q4_record.specs.declared.head.Head.{Head}
 use Rattle.q4_record.specs.declared.head.Head.TheVariants.{Insert, End, Mark, Next}
 use Rattle.q4_record.specs.declared.header.Format.{Format}
@@ -28,7 +29,7 @@ use Rattle.q4_record.specs.declared.replay.Stage.TheVariants as stage
 use Rattle.q4_record.specs.Wide.{IsWideRow}
 use Rattle.q4_record.specs.Record.{Record, row_columns}
 use Rattle.q4_record.specs.Replay.{MayInsert, MayMark, MayNext, MayCome, table_after, replayed, replays, at_base, at_batches, passed_limit, AllStand}
-use Rattle.q4_record.specs.Side.{format_of, base_of, IsBase, BatchesStand, after_batches, Side}
+use Rattle.q4_record.specs.Side.{format_of, base_of, IsBase, BatchesStand, after_batches, OwnSide, Side}
 use Rattle.q4_record.specs.Written.{IsSound}
 use Rattle.q4_record.proofs.Cuts.{short_row}
 use Rattle.q4_record.proofs.Limits.{within}
@@ -137,9 +138,18 @@ sound_new columns is = record {
 sound_base : (format : Format) (columns : List Column) (base : List ℕ) (table : TableState) → IsColumns columns → IsBase format columns base table → IsSound columns table
 sound_base format columns base table is b = subst (λ (replay : Replay). IsSound columns replay.table) b.replay_is (sound_records columns (at_base columns) b.records (sound_new columns is) b.stand)
 
-pub sound_side : (columns : List Column) (bytes : List ℕ) (table : TableState) (generation len : ℕ) → IsColumns columns → Side columns bytes table generation len → IsSound columns table
-sound_side columns bytes table generation len is side =
+-- a side of its own columns stands for a valid table of these
+pub sound_own : (columns : List Column) (bytes : List ℕ) (table : TableState) (generation len : ℕ) → IsColumns columns → OwnSide columns bytes table generation len → IsSound columns table
+sound_own columns bytes table generation len is side =
     let w = side.stands in
     let r = w.reaches in
     let sound = sound_batches columns (at_batches r.base_table) w.batches (sound_base (format_of bytes) columns (base_of bytes) r.base_table is r.base) r.stand in
     subst (IsSound columns) (ap (λ (replay : Replay). replay.table) (sym r.replay_is) ∙ sym w.table_is) sound
+
+-- and any side for one of the columns given
+pub sound_side : (columns : List Column) (bytes : List ℕ) (table : TableState) (generation len : ℕ) → IsColumns columns → Side columns bytes table generation len → IsSound columns table
+sound_side columns bytes table generation len is side =
+    let many = length-wider columns side.own side.wider in
+    let sound = sound_own side.own bytes side.own_table generation len (record { some = omega (arith, is.some, many); few = omega (arith, is.few, many) }) side.stands in
+    let wider : AreWider columns side.own_table.columns = subst (AreWider columns) (sym sound.columns_are) side.wider in
+    subst (IsSound columns) (sym side.table_is) (record { columns_are = refl; valid = valid-wider side.own_table columns sound.valid wider; unowned = sound.unowned })

@@ -7,11 +7,14 @@ pub mod Inserting
 pub mod Heads
 pub mod Recording
 pub mod Schemas
+pub mod Told
 pub mod Sections
 pub mod Batches
 pub mod Bases
 pub mod Sides
 pub mod Once
+pub mod WideSides
+pub mod OneBase
 pub mod OneSide
 pub mod WrittenBases
 pub mod WrittenSides

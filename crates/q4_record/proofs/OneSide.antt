@@ -1,121 +1,27 @@
 -- Bytes are one side at most, or fail in one way.
-use Rattle.std.proofs.Common.{◌≡◌, ◌≢◌, ℕ, suc, ◌+◌, ◌^◌, ◌<◌, ◌≤◌, ◌⊎◌, List, [], ◌∷◌, ◌++◌, Result, Ok, Err, length, get_or, drop, inl, inr, refl, sym, ap, subst, ◌∙◌, append_assoc, arith}
+use Rattle.std.proofs.Common.{◌≡◌, ◌≢◌, ℕ, ◌+◌, ◌^◌, ◌<◌, ◌≤◌, ◌⊎◌, Bool, List, [], ◌∷◌, ◌++◌, Result, Ok, Err, length, get_or, drop, inl, inr, refl, sym, ap, subst, ◌∙◌, append_assoc, arith}
 use Rattle.std.specs.Prelude.{IfOk, IfErr}
-use Rattle.std.specs.List.{All}
 use Rattle.std.specs.Int.{w32, to_be_bytes}
-use Rattle.std.proofs.lemmas.List.{append_cancel_left, length-append, length-drop}
+use Rattle.std.proofs.lemmas.List.{length-append, length-drop}
 use Rattle.std.proofs.lemmas.Nat.{from_be_bytes-to_be_bytes_4}
 use Rattle.q4_value.specs.declared.column.Column.{Column}
 use Rattle.q4_value.specs.Reading.{told_length}
+use Rattle.q4_value.specs.Row.{AreWider}
 use Rattle.q4_value.proofs.Rows.{append_same}
 use Rattle.q4_table.specs.TableState.{TableState}
-use Rattle.q4_record.specs.declared.header.Format.{Format}
 use Rattle.q4_record.specs.declared.replay.Replay.{Replay}
 use Rattle.q4_record.specs.declared.side.SideFault.{SideFault}
 use Rattle.q4_record.specs.declared.side.SideFault.TheVariants as fault
 use Rattle.q4_record.specs.Record.{Record, records_bytes}
-use Rattle.q4_record.specs.Replay.{replays, at_base, at_batches, AllStand}
+use Rattle.q4_record.specs.Replay.{replays, at_batches, AllStand}
 use Rattle.q4_record.specs.Reading.{SectionFails}
-use Rattle.q4_record.specs.Schema.{schema_bytes, MayHave, IsSchema, DifferFirst, DifferAt, OtherSchema, SchemaFails}
-use Rattle.q4_record.specs.Side.{side_limit, base_at, base_length_of, base_of, format_of, IsOpen, Begins, IsBase, batch_bytes, batches_bytes, BatchesStand, after_batches, Reaches, place_behind, IsWhole, HasRoom, Side}
-use Rattle.q4_record.specs.Faults.{HeaderFails, RecordsFail, BaseFails, EndsInBatch, BatchRecordsFail, BatchFails, BatchesFail, OpenFails, SideFails}
+use Rattle.q4_record.specs.Schema.{IsSchema, SchemaFails}
+use Rattle.q4_record.specs.Side.{side_limit, generation_limit, base_at, base_length_of, base_of, format_of, IsOpen, Begins, batch_bytes, batches_bytes, BatchesStand, after_batches, Reaches, place_behind, IsWhole, HasRoom, OwnSide, Side}
+use Rattle.q4_record.specs.Faults.{HeaderFails, EndsInBatch, BatchRecordsFail, BatchFails, BatchesFail, OwnFails, PartsFail, IsSpent, OpenFails, SideFails}
 use Rattle.q4_record.proofs.WideRows.{same_length}
-use Rattle.q4_record.proofs.Schemas.{schema_once}
 use Rattle.q4_record.proofs.Once.{section_once, section_stands, section_fails_once}
-
--- ---- the base
-
-same_first : (rest : List Column) → DifferFirst rest rest → ⊥
-same_first [] d = d
-same_first (c ∷ cs) d = d refl
-
-differ_not : (columns others : List Column) (n : ℕ) → DifferAt columns others n → others ≡ columns → ⊥
-differ_not columns others n d same =
-    let rests : d.other_rest ≡ d.rest = append_cancel_left d.same d.other_rest d.rest (sym d.others_are ∙ same ∙ d.columns_are) in
-    same_first d.rest (subst (DifferFirst d.rest) rests d.differ)
-
-differ_heads : (c : Column) (rest other xs ys : List Column) → rest ≡ c ∷ xs → other ≡ c ∷ ys → DifferFirst rest other → ⊥
-differ_heads c rest other xs ys r o d =
-    let at : DifferFirst (c ∷ xs) (c ∷ ys) = subst (λ cs. DifferFirst cs (c ∷ ys)) r (subst (DifferFirst rest) o d) in
-    at refl
-
-differ_length : (same also rest more other_rest other_more : List Column) → same ++ rest ≡ also ++ more → same ++ other_rest ≡ also ++ other_more → DifferFirst rest other_rest → DifferFirst more other_more → length same ≡ length also
-differ_length [] [] rest more other_rest other_more e f d g = refl
-differ_length [] (a ∷ also) rest more other_rest other_more e f d g = absurd (differ_heads a rest other_rest (also ++ more) (also ++ other_more) e f d)
-differ_length (s ∷ same) [] rest more other_rest other_more e f d g = absurd (differ_heads s more other_more (same ++ rest) (same ++ other_rest) (sym e) (sym f) g)
-differ_length (s ∷ same) (a ∷ also) rest more other_rest other_more e f d g =
-    let tails : same ++ rest ≡ also ++ more = cc in
-    let other_tails : same ++ other_rest ≡ also ++ other_more = cc in
-    ap suc (differ_length same also rest more other_rest other_more tails other_tails d g)
-
-differ_once : (columns others : List Column) (m n : ℕ) → DifferAt columns others m → DifferAt columns others n → m ≡ n
-differ_once columns others m n d g =
-    let len = differ_length d.same g.same d.rest g.rest d.other_rest g.other_rest (sym d.columns_are ∙ g.columns_are) (sym d.others_are ∙ g.others_are) d.differ g.differ in
-    d.number_is ∙ ap (λ k. k + 1) len ∙ sym g.number_is
-
-other_not : (format : Format) (columns : List Column) (base section : List ℕ) (n : ℕ) → OtherSchema format columns base n → base ≡ schema_bytes columns ++ section → ⊥
-other_not format columns base section n o e = differ_not columns o.others n o.differ (schema_once o.others columns o.rest section (sym o.base_is ∙ e)).0
-
--- where the schema stands it does not fail
-schema_stands : (format : Format) (columns : List Column) (base section : List ℕ) (at : ℕ) (why : SideFault) → IsSchema columns → All (MayHave format) columns → base ≡ schema_bytes columns ++ section → SchemaFails format columns base at why → ⊥
-schema_stands format columns base section at fault.Closed is may e f = f
-schema_stands format columns base section at (fault.Damaged n) is may e f = f.1 columns section (record { is = is; may = may }) e
-schema_stands format columns base section at (fault.Schema n) is may e f = other_not format columns base section n f e
-schema_stands format columns base section at (fault.Large n) is may e f = f
-schema_stands format columns base section at fault.Memory is may e f = f
-
-schema_fails_once : (format : Format) (columns : List Column) (base : List ℕ) (at : ℕ) (why way : SideFault) → SchemaFails format columns base at why → SchemaFails format columns base at way → why ≡ way
-schema_fails_once format columns base at fault.Closed way f g = absurd f
-schema_fails_once format columns base at (fault.Damaged m) fault.Closed f g = absurd g
-schema_fails_once format columns base at (fault.Damaged m) (fault.Damaged n) f g = ap fault.Damaged (f.0 ∙ sym g.0)
-schema_fails_once format columns base at (fault.Damaged m) (fault.Schema n) f g = absurd (f.1 g.others g.rest g.is g.base_is)
-schema_fails_once format columns base at (fault.Damaged m) (fault.Large n) f g = absurd g
-schema_fails_once format columns base at (fault.Damaged m) fault.Memory f g = absurd g
-schema_fails_once format columns base at (fault.Schema m) fault.Closed f g = absurd g
-schema_fails_once format columns base at (fault.Schema m) (fault.Damaged n) f g = absurd (g.1 f.others f.rest f.is f.base_is)
-schema_fails_once format columns base at (fault.Schema m) (fault.Schema n) f g =
-    let same = (schema_once g.others f.others g.rest f.rest (sym g.base_is ∙ f.base_is)).0 in
-    ap fault.Schema (differ_once columns f.others m n f.differ (subst (λ cs. DifferAt columns cs n) same g.differ))
-schema_fails_once format columns base at (fault.Schema m) (fault.Large n) f g = absurd g
-schema_fails_once format columns base at (fault.Schema m) fault.Memory f g = absurd g
-schema_fails_once format columns base at (fault.Large m) way f g = absurd f
-schema_fails_once format columns base at fault.Memory way f g = absurd f
-
-sections_same : (columns : List Column) (base x y : List ℕ) → base ≡ schema_bytes columns ++ x → base ≡ schema_bytes columns ++ y → x ≡ y
-sections_same columns base x y e f = append_cancel_left (schema_bytes columns) x y (sym e ∙ f)
-
-records_not : (format : Format) (columns : List Column) (base : List ℕ) (records : List Record) (why : SideFault) → AllStand (at_base columns) records → base ≡ schema_bytes columns ++ records_bytes records → RecordsFail format columns base why → ⊥
-records_not format columns base records why a e f =
-    section_stands (at_base columns) f.section (base_at + length (schema_bytes columns)) records why a (sections_same columns base f.section (records_bytes records) f.base_is e) f.fails
-
-base_records : (columns : List Column) (base : List ℕ) (rs ss : List Record) → AllStand (at_base columns) rs → AllStand (at_base columns) ss → base ≡ schema_bytes columns ++ records_bytes rs → base ≡ schema_bytes columns ++ records_bytes ss → rs ≡ ss
-base_records columns base rs ss a b e f = section_once (at_base columns) rs ss a b (sections_same columns base (records_bytes rs) (records_bytes ss) e f)
-
-pub base_once : (format : Format) (columns : List Column) (base : List ℕ) (one other : TableState) → IsBase format columns base one → IsBase format columns base other → one ≡ other
-base_once format columns base one other b d =
-    let same = base_records columns base b.records d.records b.stand d.stand b.base_is d.base_is in
-    ap (λ (replay : Replay). replay.table) (sym b.replay_is ∙ ap (replays (at_base columns)) same ∙ d.replay_is)
-
--- where the base stands it does not fail
-base_stands : (format : Format) (columns : List Column) (base : List ℕ) (table : TableState) (why : SideFault) → IsSchema columns → IsBase format columns base table → BaseFails format columns base why → ⊥
-base_stands format columns base table why is b (inl schema) = schema_stands format columns base (records_bytes b.records) base_at why is b.may b.base_is schema
-base_stands format columns base table why is b (inr (inl records)) = records_not format columns base b.records why b.stand b.base_is records
-base_stands format columns base table why is b (inr (inr u)) =
-    let same = base_records columns base b.records u.records b.stand u.stand b.base_is u.base_is in
-    u.unfinished (ap (λ (replay : Replay). replay.stage) (ap (replays (at_base columns)) (sym same) ∙ b.replay_is))
-
-base_fails_once : (format : Format) (columns : List Column) (base : List ℕ) (why way : SideFault) → IsSchema columns → BaseFails format columns base why → BaseFails format columns base way → why ≡ way
-base_fails_once format columns base why way is (inl f) (inl g) = schema_fails_once format columns base base_at why way f g
-base_fails_once format columns base why way is (inl f) (inr (inl g)) = absurd (schema_stands format columns base g.section base_at why is g.may g.base_is f)
-base_fails_once format columns base why way is (inl f) (inr (inr g)) = absurd (schema_stands format columns base (records_bytes g.records) base_at why is g.may g.base_is f)
-base_fails_once format columns base why way is (inr (inl f)) (inl g) = absurd (schema_stands format columns base f.section base_at way is f.may f.base_is g)
-base_fails_once format columns base why way is (inr (inl f)) (inr (inl g)) =
-    section_fails_once (at_base columns) f.section (base_at + length (schema_bytes columns)) why way f.fails
-    (subst (λ bs. SectionFails (at_base columns) bs (base_at + length (schema_bytes columns)) way) (sections_same columns base g.section f.section g.base_is f.base_is) g.fails)
-base_fails_once format columns base why way is (inr (inl f)) (inr (inr g)) = absurd (records_not format columns base g.records why g.stand g.base_is f)
-base_fails_once format columns base why way is (inr (inr f)) (inl g) = absurd (schema_stands format columns base (records_bytes f.records) base_at way is f.may f.base_is g)
-base_fails_once format columns base why way is (inr (inr f)) (inr (inl g)) = absurd (records_not format columns base f.records way f.stand f.base_is g)
-base_fails_once format columns base why way is (inr (inr f)) (inr (inr g)) = f.why_is ∙ sym g.why_is
+use Rattle.q4_record.proofs.OneBase.{schema_not, schema_fails_once, base_once, base_stands, base_fails_once}
+use Rattle.q4_record.proofs.WideSides.{HasOwn, reached_schema, failed_schema, whole_schema, own_schema, owns_once}
 
 -- ---- batches
 
@@ -209,7 +115,7 @@ batch_fails_once replay more at why way (inr f) (inr g) =
     let same = parts_once g.section f.section g.after f.after (section_few g.section g.few) (section_few f.section f.few) (sym g.bytes_are ∙ f.bytes_are) in
     section_fails_once replay f.section (at + 5) why way f.fails (subst (λ bs. SectionFails replay bs (at + 5) way) same.0 g.fails)
 
--- ---- the side
+-- ---- the header, and batches behind a base
 
 header_begins : (bytes : List ℕ) (why : SideFault) → Begins bytes → HeaderFails bytes why → ⊥
 header_begins bytes fault.Closed b f = f
@@ -304,36 +210,111 @@ batches_fail_once columns bytes why way f g =
       | inr (inr ahead) ↦ absurd (batch_stands g.replay g.more (place_behind bytes g.batches) way ahead g.fails)
     ]
 
--- Bytes that are a side do not fail.
-pub side_not_fails : (columns : List Column) (bytes : List ℕ) (table : TableState) (g n : ℕ) (why : SideFault) → IsSchema columns → Side columns bytes table g n → OpenFails columns bytes why → ⊥
-side_not_fails columns bytes table g n why is s (inl header) = header_begins bytes why s.stands.reaches.begins header
-side_not_fails columns bytes table g n why is s (inr (inl base)) = base_stands (format_of bytes) columns (base_of bytes) s.stands.reaches.base_table why is s.stands.reaches.base base.1
-side_not_fails columns bytes table g n why is s (inr (inr (inl batches))) = whole_not_fails columns bytes table g n why s.stands batches
-side_not_fails columns bytes table g n why is s (inr (inr (inr room))) =
-    let same = whole_once columns bytes table room.table g room.generation n room.len s.stands room.stands in
+-- ---- what is behind the schema
+
+-- a side that stands for a table does not fail behind its schema
+own_stands : (own : List Column) (bytes : List ℕ) (table : TableState) (g n : ℕ) (why : SideFault) → OwnSide own bytes table g n → OwnFails own bytes why → ⊥
+own_stands own bytes table g n why s (inl base) =
+    let reaches = s.stands.reaches in
+    base_stands (format_of bytes) own (base_of bytes) reaches.base_table why reaches.base base.1
+own_stands own bytes table g n why s (inr (inl batches)) = whole_not_fails own bytes table g n why s.stands batches
+own_stands own bytes table g n why s (inr (inr room)) =
+    let same = whole_once own bytes table room.table g room.generation n room.len s.stands room.stands in
     room.lacks (subst (λ (t : TableState). HasRoom t room.len) same.0 (subst (HasRoom table) same.2 s.room))
 
--- Bytes fail in one way.
+own_fails_once : (own : List Column) (bytes : List ℕ) (why way : SideFault) → OwnFails own bytes why → OwnFails own bytes way → why ≡ way
+own_fails_once own bytes why way (inl f) (inl g) = base_fails_once (format_of bytes) own (base_of bytes) why way f.1 g.1
+own_fails_once own bytes why way (inl f) (inr (inl g)) = absurd (base_stands (format_of bytes) own (base_of bytes) g.reaches.base_table why g.reaches.base f.1)
+own_fails_once own bytes why way (inl f) (inr (inr g)) = absurd (base_stands (format_of bytes) own (base_of bytes) g.stands.reaches.base_table why g.stands.reaches.base f.1)
+own_fails_once own bytes why way (inr (inl f)) (inl g) = absurd (base_stands (format_of bytes) own (base_of bytes) f.reaches.base_table way f.reaches.base g.1)
+own_fails_once own bytes why way (inr (inl f)) (inr (inl g)) = batches_fail_once own bytes why way f g
+own_fails_once own bytes why way (inr (inl f)) (inr (inr g)) = absurd (whole_not_fails own bytes g.table g.generation g.len why g.stands f)
+own_fails_once own bytes why way (inr (inr f)) (inl g) = absurd (base_stands (format_of bytes) own (base_of bytes) f.stands.reaches.base_table way f.stands.reaches.base g.1)
+own_fails_once own bytes why way (inr (inr f)) (inr (inl g)) = absurd (whole_not_fails own bytes f.table f.generation f.len way f.stands g)
+own_fails_once own bytes why way (inr (inr f)) (inr (inr g)) = f.why_is ∙ sym g.why_is
+
+-- ---- the side
+
+-- a side of its own columns has one table, one generation and one length
+pub own_once : (columns : List Column) (bytes : List ℕ) (one other : TableState) (g h m n : ℕ) → OwnSide columns bytes one g m → OwnSide columns bytes other h n → (one ≡ other) × (g ≡ h) × (m ≡ n)
+own_once columns bytes one other g h m n s t = whole_once columns bytes one other g h m n s.stands t.stands
+
+-- a side has one table, one generation and one length
+pub side_once : (columns : List Column) (bytes : List ℕ) (one other : TableState) (g h m n : ℕ) → Side columns bytes one g m → Side columns bytes other h n → (one ≡ other) × (g ≡ h) × (m ≡ n)
+side_once columns bytes one other g h m n s t =
+    let owns = owns_once s.own t.own bytes (own_schema s.own bytes s.own_table g m s.stands) (own_schema t.own bytes t.own_table h n t.stands) in
+    let once = own_once s.own bytes s.own_table t.own_table g h m n s.stands (subst (λ cs. OwnSide cs bytes t.own_table h n) (sym owns) t.stands) in
+    (s.table_is ∙ ap (λ (u : TableState). record u { columns = columns }) once.0 ∙ sym t.table_is, once.1, once.2)
+
+parts_begin : (columns : List Column) (bytes : List ℕ) (why : SideFault) → (f : PartsFail columns bytes why) → HasOwn f.own bytes
+parts_begin columns bytes why f = elim f.fails [
+  | inl base ↦ failed_schema f.own bytes why base
+  | inr (inl batches) ↦ reached_schema f.own bytes batches.batches batches.replay (1 ∷ batches.more) batches.reaches
+  | inr (inr room) ↦ whole_schema f.own bytes room.table room.generation room.len room.stands
+]
+
+spent_begin : (columns : List Column) (bytes : List ℕ) (why : SideFault) → (f : IsSpent columns bytes why) → HasOwn f.own bytes
+spent_begin columns bytes why f = own_schema f.own bytes f.own_table generation_limit f.len f.stands
+
+-- Why an open side stands for no table, but for its header.
+abbrev BehindFails : List Column → List ℕ → SideFault → Type 0
+BehindFails columns bytes why = (Begins bytes × SchemaFails (format_of bytes) columns (base_of bytes) base_at why) ⊎ PartsFail columns bytes why ⊎ IsSpent columns bytes why
+
+behind_begins : (columns : List Column) (bytes : List ℕ) (why : SideFault) → BehindFails columns bytes why → Begins bytes
+behind_begins columns bytes why (inl schema) = schema.0
+behind_begins columns bytes why (inr (inl parts)) = (parts_begin columns bytes why parts).begins
+behind_begins columns bytes why (inr (inr spent)) = (spent_begin columns bytes why spent).begins
+
+-- where the schema of the columns or of narrower ones stands it does not fail
+stood : (columns own : List Column) (bytes : List ℕ) (why : SideFault) → IsSchema columns → AreWider columns own → HasOwn own bytes → Begins bytes × SchemaFails (format_of bytes) columns (base_of bytes) base_at why → ⊥
+stood columns own bytes why is w has f = schema_not (format_of bytes) columns own (base_of bytes) has.records base_at why is w has.may has.base_is f.1
+
+-- a part that fails is one of a side that is read no further
+parts_not : (columns : List Column) (bytes : List ℕ) (own : List Column) (table : TableState) (g n : ℕ) (why : SideFault) → OwnSide own bytes table g n → PartsFail columns bytes why → ⊥
+parts_not columns bytes own table g n why s f =
+    let owns = owns_once f.own own bytes (parts_begin columns bytes why f) (own_schema own bytes table g n s) in
+    own_stands own bytes table g n why s (subst (λ cs. OwnFails cs bytes why) owns f.fails)
+
+parts_fail_once : (columns : List Column) (bytes : List ℕ) (why way : SideFault) → PartsFail columns bytes why → PartsFail columns bytes way → why ≡ way
+parts_fail_once columns bytes why way f g =
+    let owns = owns_once g.own f.own bytes (parts_begin columns bytes way g) (parts_begin columns bytes why f) in
+    own_fails_once f.own bytes why way f.fails (subst (λ cs. OwnFails cs bytes way) owns g.fails)
+
+behind_fails_once : (columns : List Column) (bytes : List ℕ) (why way : SideFault) → IsSchema columns → BehindFails columns bytes why → BehindFails columns bytes way → why ≡ way
+behind_fails_once columns bytes why way is (inl f) (inl g) = schema_fails_once (format_of bytes) columns (base_of bytes) base_at why way f.1 g.1
+behind_fails_once columns bytes why way is (inl f) (inr (inl g)) = absurd (stood columns g.own bytes why is g.wider (parts_begin columns bytes way g) f)
+behind_fails_once columns bytes why way is (inl f) (inr (inr g)) = absurd (stood columns g.own bytes why is g.wider (spent_begin columns bytes way g) f)
+behind_fails_once columns bytes why way is (inr (inl f)) (inl g) = absurd (stood columns f.own bytes way is f.wider (parts_begin columns bytes why f) g)
+behind_fails_once columns bytes why way is (inr (inl f)) (inr (inl g)) = parts_fail_once columns bytes why way f g
+behind_fails_once columns bytes why way is (inr (inl f)) (inr (inr g)) = absurd (parts_not columns bytes g.own g.own_table generation_limit g.len why g.stands f)
+behind_fails_once columns bytes why way is (inr (inr f)) (inl g) = absurd (stood columns f.own bytes way is f.wider (spent_begin columns bytes why f) g)
+behind_fails_once columns bytes why way is (inr (inr f)) (inr (inl g)) = absurd (parts_not columns bytes f.own f.own_table generation_limit f.len way f.stands g)
+behind_fails_once columns bytes why way is (inr (inr f)) (inr (inr g)) = f.why_is ∙ sym g.why_is
+
+-- bytes fail in one way
 open_fails_once : (columns : List Column) (bytes : List ℕ) (why way : SideFault) → IsSchema columns → OpenFails columns bytes why → OpenFails columns bytes way → why ≡ way
 open_fails_once columns bytes why way is (inl f) (inl g) = header_fails_once bytes why way f g
-open_fails_once columns bytes why way is (inl f) (inr (inl g)) = absurd (header_begins bytes why g.0 f)
-open_fails_once columns bytes why way is (inl f) (inr (inr (inl g))) = absurd (header_begins bytes why g.reaches.begins f)
-open_fails_once columns bytes why way is (inl f) (inr (inr (inr g))) = absurd (header_begins bytes why g.stands.reaches.begins f)
-open_fails_once columns bytes why way is (inr (inl f)) (inl g) = absurd (header_begins bytes way f.0 g)
-open_fails_once columns bytes why way is (inr (inl f)) (inr (inl g)) = base_fails_once (format_of bytes) columns (base_of bytes) why way is f.1 g.1
-open_fails_once columns bytes why way is (inr (inl f)) (inr (inr (inl g))) = absurd (base_stands (format_of bytes) columns (base_of bytes) g.reaches.base_table why is g.reaches.base f.1)
-open_fails_once columns bytes why way is (inr (inl f)) (inr (inr (inr g))) = absurd (base_stands (format_of bytes) columns (base_of bytes) g.stands.reaches.base_table why is g.stands.reaches.base f.1)
-open_fails_once columns bytes why way is (inr (inr (inl f))) (inl g) = absurd (header_begins bytes way f.reaches.begins g)
-open_fails_once columns bytes why way is (inr (inr (inl f))) (inr (inl g)) = absurd (base_stands (format_of bytes) columns (base_of bytes) f.reaches.base_table way is f.reaches.base g.1)
-open_fails_once columns bytes why way is (inr (inr (inl f))) (inr (inr (inl g))) = batches_fail_once columns bytes why way f g
-open_fails_once columns bytes why way is (inr (inr (inl f))) (inr (inr (inr g))) = absurd (whole_not_fails columns bytes g.table g.generation g.len why g.stands f)
-open_fails_once columns bytes why way is (inr (inr (inr f))) (inl g) = absurd (header_begins bytes way f.stands.reaches.begins g)
-open_fails_once columns bytes why way is (inr (inr (inr f))) (inr (inl g)) = absurd (base_stands (format_of bytes) columns (base_of bytes) f.stands.reaches.base_table way is f.stands.reaches.base g.1)
-open_fails_once columns bytes why way is (inr (inr (inr f))) (inr (inr (inl g))) = absurd (whole_not_fails columns bytes f.table f.generation f.len way f.stands g)
-open_fails_once columns bytes why way is (inr (inr (inr f))) (inr (inr (inr g))) = f.why_is ∙ sym g.why_is
+open_fails_once columns bytes why way is (inl f) (inr g) = absurd (header_begins bytes why (behind_begins columns bytes way g) f)
+open_fails_once columns bytes why way is (inr f) (inl g) = absurd (header_begins bytes way (behind_begins columns bytes why f) g)
+open_fails_once columns bytes why way is (inr f) (inr g) = behind_fails_once columns bytes why way is f g
+
+-- a narrower side of the greatest generation is none
+spent_not : (columns : List Column) (bytes : List ℕ) (table : TableState) (g n : ℕ) (why : SideFault) → Side columns bytes table g n → IsSpent columns bytes why → ⊥
+spent_not columns bytes table g n why s f =
+    let owns = owns_once s.own f.own bytes (own_schema s.own bytes s.own_table g n s.stands) (spent_begin columns bytes why f) in
+    let once = own_once f.own bytes s.own_table f.own_table g generation_limit n f.len (subst (λ cs. OwnSide cs bytes s.own_table g n) owns s.stands) f.stands in
+    let below : g < generation_limit = s.greater (λ same. f.other (sym owns ∙ same)) in
+    omega (arith, below, once.1)
+
+-- bytes that are a side do not fail
+side_not_fails : (columns : List Column) (bytes : List ℕ) (table : TableState) (g n : ℕ) (why : SideFault) → IsSchema columns → Side columns bytes table g n → OpenFails columns bytes why → ⊥
+side_not_fails columns bytes table g n why is s (inl header) = header_begins bytes why (own_schema s.own bytes s.own_table g n s.stands).begins header
+side_not_fails columns bytes table g n why is s (inr (inl schema)) = stood columns s.own bytes why is s.wider (own_schema s.own bytes s.own_table g n s.stands) schema
+side_not_fails columns bytes table g n why is s (inr (inr (inl parts))) = parts_not columns bytes s.own s.own_table g n why s.stands parts
+side_not_fails columns bytes table g n why is s (inr (inr (inr spent))) = spent_not columns bytes table g n why s spent
 
 open_of_side : (columns : List Column) (bytes : List ℕ) (table : TableState) (g n : ℕ) → Side columns bytes table g n → IsOpen bytes
-open_of_side columns bytes table g n s = s.stands.reaches.begins.is_open
+open_of_side columns bytes table g n s = (own_schema s.own bytes s.own_table g n s.stands).begins.is_open
 
 -- what every fault but want of memory says
 pub apart : (columns : List Column) (bytes : List ℕ) (table : TableState) (g n : ℕ) (why : SideFault) → IsSchema columns → Side columns bytes table g n → SideFails columns bytes why → why ≡ fault.Memory
@@ -369,20 +350,16 @@ fails_once columns bytes why way is f g = elim (opens columns bytes why f) [
   ]
 ]
 
--- a side has one table, one generation and one length
-pub side_once : (columns : List Column) (bytes : List ℕ) (one other : TableState) (g h m n : ℕ) → Side columns bytes one g m → Side columns bytes other h n → (one ≡ other) × (g ≡ h) × (m ≡ n)
-side_once columns bytes one other g h m n s t = whole_once columns bytes one other g h m n s.stands t.stands
-
 -- what was read is what the bytes stand for
-pub read_again : (columns : List Column) (bytes : List ℕ) (r : Result (TableState × ℕ × ℕ) SideFault) → IsSchema columns → IfOk r (λ found. Side columns bytes found.0 found.1 found.2) → IfErr r (SideFails columns bytes)
-    → (table : TableState) (g n : ℕ) → Side columns bytes table g n → (r ≡ Ok (table, g, n)) ⊎ (r ≡ Err fault.Memory)
+pub read_again : (columns : List Column) (bytes : List ℕ) (r : Result (TableState × ℕ × ℕ × Bool) SideFault) → IsSchema columns → IfOk r (λ found. Side columns bytes found.0 found.1 found.2) → IfErr r (SideFails columns bytes)
+    → (table : TableState) (g n : ℕ) → Side columns bytes table g n → ((narrow : Bool) × (r ≡ Ok (table, g, n, narrow))) ⊎ (r ≡ Err fault.Memory)
 read_again columns bytes (Ok found) is read fails table g n s =
     let once = side_once columns bytes found.0 table found.1 g found.2 n read s in
-    let same : found ≡ (table, g, n) = λ i. (once.0 i, once.1 i, once.2 i) in
-    inl (ap Ok same)
+    let same : found ≡ (table, g, n, found.3) = λ i. (once.0 i, once.1 i, once.2 i, found.3) in
+    inl (found.3, ap Ok same)
 read_again columns bytes (Err why) is read fails table g n s = inr (ap Err (apart columns bytes table g n why is s fails))
 
-pub told_again : (columns : List Column) (bytes : List ℕ) (r : Result (TableState × ℕ × ℕ) SideFault) → IsSchema columns → IfOk r (λ found. Side columns bytes found.0 found.1 found.2) → IfErr r (SideFails columns bytes)
+pub told_again : (columns : List Column) (bytes : List ℕ) (r : Result (TableState × ℕ × ℕ × Bool) SideFault) → IsSchema columns → IfOk r (λ found. Side columns bytes found.0 found.1 found.2) → IfErr r (SideFails columns bytes)
     → (why : SideFault) → SideFails columns bytes why → (r ≡ Err why) ⊎ (r ≡ Err fault.Memory) ⊎ (why ≡ fault.Memory)
 told_again columns bytes (Ok found) is read fails why f = inr (inr (apart columns bytes found.0 found.1 found.2 why is read f))
 told_again columns bytes (Err way) is read fails why f = elim (fails_once columns bytes way why is fails f) [

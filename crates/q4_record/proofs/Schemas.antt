@@ -1,16 +1,18 @@
--- Which columns a schema tells, and where they first differ.
-use Rattle.std.proofs.Common.{◌≡◌, ◌≢◌, ℕ, ◌+◌, ◌<◌, ◌≤◌, Bool, true, false, List, [], ◌∷◌, ◌++◌, Option, None, Some, length, get_or, drop, refl, sym, ap, subst, ◌∙◌, append_assoc, arith}
-use Rattle.std.specs.List.{All, flat_map, slice_get}
-use Rattle.std.proofs.lemmas.List.{append-nil, length-append, flat_map_more, get_or_at, drop_at, nil_from_length, length_push}
+-- Which columns a schema tells.
+use Rattle.std.proofs.Common.{◌≡◌, ℕ, ◌+◌, ◌<◌, ◌≤◌, Bool, true, false, List, [], ◌∷◌, ◌++◌, None, Some, length, get_or, drop, refl, sym, ap, subst, ◌∙◌, append_assoc, arith}
+use Rattle.std.specs.List.{All, flat_map}
+use Rattle.std.proofs.lemmas.List.{append-nil, length-append, flat_map_more, drop_at, nil_from_length, length_push}
 use Rattle.std.proofs.lemmas.List.Elements.{All-nil, All-head, All-drop, All-push}
-use Rattle.std.proofs.lemmas.Option.{slice_get-get_or, slice_get_past}
 use Rattle.q4_value.specs.declared.column.Column.{Column}
 use Rattle.q4_value.specs.declared.column.Kind.{Kind}
 use Rattle.q4_value.specs.declared.column.Kind.TheVariants as kind
+use Rattle.q4_value.specs.Row.{AreWider}
 use Rattle.q4_value.proofs.Rows.{append_same}
+use Rattle.q4_value.proofs.Wider.{length-wider, wider_join}
 use Rattle.q4_record.specs.declared.header.Format.{Format}
 use Rattle.q4_record.specs.Schema.{kind_number, column_bytes, schema_bytes, MayHave, IsSchemaOf, DifferFirst, OtherSchema}
-use Rattle.q4_record.specs.SideParts.{DiffersNext}
+use Rattle.q4_record.specs.declared.schema.ToldColumns.{ToldColumns}
+use Rattle.q4_record.specs.SideParts.{WiderSoFar, Differed, DiffersSoFar, ToldSoFar, SchemaRead}
 
 kind_once : (p q : Bool) (a b : Kind) → kind_number p a ≡ kind_number q b → (p ≡ q) × (a ≡ b)
 kind_once false false kind.Int kind.Int e = (refl, refl)
@@ -59,91 +61,27 @@ schema_once one other x y e =
     let none : t.behind ≡ [] = nil_from_length t.behind (omega (arith, ap length t.all_are, length-append one t.behind)) in
     (sym (t.all_are ∙ ap (λ cs. one ++ cs) none ∙ append-nil one), t.rest_is ∙ ap (λ cs. flat_map column_bytes cs ++ y) none)
 
--- a column differs, and was told
-pub record Differed (columns others : List Column) (number : ℕ) : Type 0 where
-  pub same : List Column
-  pub rest : List Column
-  pub told : Column
-  pub others_rest : List Column
-  pub columns_are : columns ≡ same ++ rest
-  pub others_are : others ≡ same ++ told ∷ others_rest
-  pub differ : DifferFirst rest (told ∷ others_rest)
-  pub number_is : number ≡ length same + 1
-
--- whether one of the columns that were told differs
-abbrev pub DiffersSoFar : List Column → List Column → Option ℕ → Type 0
-DiffersSoFar columns others None = (behind : List Column) × (columns ≡ others ++ behind)
-DiffersSoFar columns others (Some number) = Differed columns others number
-
 -- the columns that were told so far, and what is left
-pub record SchemaSoFar (format : Format) (columns : List Column) (told : List ℕ) (count : ℕ) (rest : List ℕ) (differs : Option ℕ) : Type 0 where
+pub record SchemaSoFar (format : Format) (columns : List Column) (told : List ℕ) (count : ℕ) (rest : List ℕ) (now : ToldColumns) : Type 0 where
   pub others : List Column
   pub count_is : length others ≡ count
-  pub names : All (λ c. length c.name < 256) others
+  pub names : All (λ column. length column.name < 256) others
   pub may : All (MayHave format) others
   pub told_is : told ≡ flat_map column_bytes others ++ rest
-  pub so_far : DiffersSoFar columns others differs
+  pub so_far : ToldSoFar columns others now
 
-pub none_told : (format : Format) (columns : List Column) (told : List ℕ) → SchemaSoFar format columns told 0 told None
-none_told format columns told = record { others = []; count_is = refl; names = All-nil (λ c. length c.name < 256); may = All-nil (MayHave format); told_is = refl; so_far = (columns, refl) }
+pub none_told : (format : Format) (columns : List Column) (told : List ℕ) (now : ToldColumns) → ToldSoFar columns [] now → SchemaSoFar format columns told 0 told now
+none_told format columns told now so = record { others = []; count_is = refl; names = All-nil (λ c. length c.name < 256); may = All-nil (MayHave format); told_is = refl; so_far = so }
 
-first_more : (rest : List Column) (d : Column) (ds es : List Column) → DifferFirst rest (d ∷ ds) → DifferFirst rest (d ∷ es)
-first_more [] d ds es f = tt
-first_more (c ∷ cs) d ds es f = f
-
-at_next : (others behind : List Column) (c : Column) → slice_get (others ++ c ∷ behind) (length others) ≡ Some c
-at_next others behind c =
-    slice_get-get_or (others ++ c ∷ behind) (length others) c (omega (arith, length-append others (c ∷ behind))) ∙ ap Some (get_or_at others c behind c (length others) refl)
-
-past : (others : List Column) (c : Column) → slice_get (others ++ []) (length others) ≡ Some c → ⊥
-past others c e =
-    let none : slice_get (others ++ []) (length others) ≡ None = slice_get_past (others ++ []) (length others) (omega (arith, ap length (append-nil others))) in
-    absurd cc
-
--- the column here is the one told
-same_next : (columns others behind : List Column) (c : Column) → columns ≡ others ++ behind → slice_get columns (length others) ≡ Some c → (more : List Column) × (columns ≡ (others ++ c ∷ []) ++ more)
-same_next columns others [] c e here = absurd (past others c (ap (λ cs. slice_get cs (length others)) (sym e) ∙ here))
-same_next columns others (d ∷ ds) c e here =
-    let is = sym (at_next others ds d) ∙ ap (λ cs. slice_get cs (length others)) (sym e) ∙ here in
-    let same : d ≡ c = cc in
-    (ds, e ∙ ap (λ x. others ++ x ∷ ds) same ∙ sym (append_assoc others (c ∷ []) ds))
-
-other_next : (columns others behind : List Column) (c : Column) → columns ≡ others ++ behind → slice_get columns (length others) ≢ Some c → DifferFirst behind (c ∷ [])
-other_next columns others [] c e here = tt
-other_next columns others (d ∷ ds) c e here = λ same. here (ap (λ cs. slice_get cs (length others)) e ∙ at_next others ds d ∙ ap Some same)
-
-differs_next : (columns others : List Column) (c : Column) (differs next : Option ℕ) → DiffersSoFar columns others differs → DiffersNext differs (slice_get columns (length others)) c (length others) next → DiffersSoFar columns (others ++ c ∷ []) next
-differs_next columns others c (Some number) next d e = subst (DiffersSoFar columns (others ++ c ∷ [])) (sym e) (record {
-  same = d.same;
-  rest = d.rest;
-  told = d.told;
-  others_rest = d.others_rest ++ c ∷ [];
-  columns_are = d.columns_are;
-  others_are = ap (λ cs. cs ++ c ∷ []) d.others_are ∙ append_assoc d.same (d.told ∷ d.others_rest) (c ∷ []);
-  differ = first_more d.rest d.told d.others_rest (d.others_rest ++ c ∷ []) d.differ;
-  number_is = d.number_is;
-})
-differs_next columns others c None None d e = same_next columns others d.0 c d.1 e
-differs_next columns others c None (Some number) d e = record {
-  same = others;
-  rest = d.0;
-  told = c;
-  others_rest = [];
-  columns_are = d.1;
-  others_are = refl;
-  differ = other_next columns others d.0 c d.1 e.0;
-  number_is = e.1;
-}
-
-pub one_more_told : (format : Format) (columns : List Column) (told : List ℕ) (count : ℕ) (rest : List ℕ) (differs : Option ℕ) (c : Column) (after : List ℕ) (next : Option ℕ) → SchemaSoFar format columns told count rest differs
-    → length c.name < 256 → MayHave format c → rest ≡ column_bytes c ++ after → DiffersNext differs (slice_get columns count) c count next → SchemaSoFar format columns told (count + 1) after next
-one_more_told format columns told count rest differs c after next so name may e d = record {
+pub one_more_told : (format : Format) (columns : List Column) (told : List ℕ) (count : ℕ) (rest : List ℕ) (now : ToldColumns) (c : Column) (after : List ℕ) (next : ToldColumns) → SchemaSoFar format columns told count rest now
+    → length c.name < 256 → MayHave format c → rest ≡ column_bytes c ++ after → ((columns told : List Column) → length told ≡ count → ToldSoFar columns told now → ToldSoFar columns (told ++ c ∷ []) next) → SchemaSoFar format columns told (count + 1) after next
+one_more_told format columns told count rest now c after next so name may e goes = record {
   others = so.others ++ c ∷ [];
   count_is = length_push so.others c ∙ ap (λ n. n + 1) so.count_is;
   names = All-push (λ c. length c.name < 256) so.others c so.names name;
   may = All-push (MayHave format) so.others c so.may may;
   told_is = so.told_is ∙ ap (λ bs. flat_map column_bytes so.others ++ bs) e ∙ sym (append_assoc (flat_map column_bytes so.others) (column_bytes c) after) ∙ ap (λ bs. bs ++ after) (flat_map_more column_bytes [] so.others c);
-  so_far = differs_next columns so.others c differs next so.so_far (subst (λ n. DiffersNext differs (slice_get columns n) c n next) (sym so.count_is) d);
+  so_far = goes columns so.others so.count_is so.so_far;
 }
 
 first_none : (format : Format) (all front behind : List Column) (rest more : List ℕ) → 0 < length behind → all ≡ front ++ behind → rest ≡ flat_map column_bytes behind ++ more → IsSchemaOf format all
@@ -157,41 +95,48 @@ first_none format all front (c ∷ cs) rest more lt all_are e is none =
     none c (flat_map column_bytes cs ++ more) (All-head short c cs names) (All-head (MayHave format) c cs may) (e ∙ append_assoc (column_bytes c) (flat_map column_bytes cs) more)
 
 -- where no column can be read no schema of so many columns is at the front
-pub no_schema : (format : Format) (columns : List Column) (told : List ℕ) (count place : ℕ) (rest : List ℕ) (differs : Option ℕ) → SchemaSoFar format columns told place rest differs → place < count
+pub no_schema : (format : Format) (columns : List Column) (told : List ℕ) (count place : ℕ) (rest : List ℕ) (now : ToldColumns) → SchemaSoFar format columns told place rest now → place < count
     → ((c : Column) (more : List ℕ) → length c.name < 256 → MayHave format c → rest ≡ column_bytes c ++ more → ⊥) → (others : List Column) (more : List ℕ) → IsSchemaOf format others → 7 ∷ count ∷ told ≡ schema_bytes others ++ more → ⊥
-no_schema format columns told count place rest differs so lt none others more is e =
+no_schema format columns told count place rest now so lt none others more is e =
     let len : count ≡ length others = ap (λ bs. get_or bs 1 0) e in
     let t = told_on so.others others rest more (omega (arith, so.count_is)) (sym so.told_is ∙ ap (drop 2) e) in
     first_none format others so.others t.behind rest more (omega (arith, ap length t.all_are, length-append so.others t.behind, so.count_is)) t.all_are t.rest_is is none
 
--- all columns were told, and none differs
-all_told : (format : Format) (columns : List Column) (told : List ℕ) (count : ℕ) (rest : List ℕ) → (so : SchemaSoFar format columns told count rest None) → length columns ≤ count → columns ≡ so.others
-all_told format columns told count rest so few =
-    let behind = so.so_far.0 in
-    let none : behind ≡ [] = nil_from_length behind (omega (arith, ap length so.so_far.1, length-append so.others behind, so.count_is)) in
-    so.so_far.1 ∙ ap (λ cs. so.others ++ cs) none ∙ append-nil so.others
+told_schema : (format : Format) (columns : List Column) (told : List ℕ) (count : ℕ) (rest : List ℕ) (now : ToldColumns) → (so : SchemaSoFar format columns told count rest now) → 7 ∷ count ∷ told ≡ schema_bytes so.others ++ rest
+told_schema format columns told count rest now so = ap (λ n. 7 ∷ n ∷ told) (sym so.count_is) ∙ ap (λ bs. 7 ∷ length so.others ∷ bs) so.told_is
 
-pub same_schema : (format : Format) (columns : List Column) (told : List ℕ) (count : ℕ) (rest : List ℕ) → SchemaSoFar format columns told count rest None → length columns ≤ count → 7 ∷ count ∷ told ≡ schema_bytes columns ++ rest
-same_schema format columns told count rest so few =
-    ap (λ n. 7 ∷ n ∷ told) (sym so.count_is) ∙ ap (λ bs. 7 ∷ length so.others ∷ bs) so.told_is ∙ ap (λ cs. schema_bytes cs ++ rest) (sym (all_told format columns told count rest so few))
+-- all columns were told, and none differs: none is left of those given
+all_told : (told own behind : List Column) → own ≡ told ++ behind → length own ≤ length told → own ≡ told
+all_told told own behind own_is few =
+    let none : behind ≡ [] = nil_from_length behind (omega (arith, ap length own_is, length-append told behind)) in
+    own_is ∙ ap (λ cs. told ++ cs) none ∙ append-nil told
 
--- the format has them
-pub same_may : (format : Format) (columns : List Column) (told : List ℕ) (count : ℕ) (rest : List ℕ) → SchemaSoFar format columns told count rest None → length columns ≤ count → All (MayHave format) columns
-same_may format columns told count rest so few = subst (All (MayHave format)) (sym (all_told format columns told count rest so few)) so.may
+all_given : (columns front behind told own : List Column) → columns ≡ front ++ behind → own ≡ told ++ behind → AreWider front told → AreWider columns own
+all_given columns front behind told own columns_are own_is agree =
+    subst (λ cs. AreWider cs own) (sym columns_are) (subst (AreWider (front ++ behind)) (sym own_is) (wider_join front told behind agree))
 
-told_schema : (format : Format) (columns : List Column) (told : List ℕ) (count : ℕ) (rest : List ℕ) (differs : Option ℕ) → (so : SchemaSoFar format columns told count rest differs) → 7 ∷ count ∷ told ≡ schema_bytes so.others ++ rest
-told_schema format columns told count rest differs so = ap (λ n. 7 ∷ n ∷ told) (sym so.count_is) ∙ ap (λ bs. 7 ∷ length so.others ∷ bs) so.told_is
+pub schema_read : (format : Format) (columns : List Column) (told : List ℕ) (count : ℕ) (rest : List ℕ) (now : ToldColumns) → SchemaSoFar format columns told count rest now → now.differs ≡ None → length now.own ≤ count
+    → SchemaRead format columns (7 ∷ count ∷ told) now.own now.wider rest
+schema_read format columns told count rest now so none few =
+    let fit : WiderSoFar columns so.others now.own now.wider = subst (DiffersSoFar columns so.others now.own now.wider) none so.so_far in
+    let own = all_told so.others now.own fit.behind fit.own_is (omega (arith, few, so.count_is)) in
+    record {
+      may = subst (All (MayHave format)) (sym own) so.may;
+      base_is = told_schema format columns told count rest now so ∙ ap (λ cs. schema_bytes cs ++ rest) (sym own);
+      agree = all_given columns fit.front fit.behind so.others now.own fit.columns_are fit.own_is fit.agree;
+      given = fit.given;
+    }
 
 -- a column differs that was told
-pub other_schema : (format : Format) (columns : List Column) (told : List ℕ) (count : ℕ) (rest : List ℕ) (number : ℕ) → SchemaSoFar format columns told count rest (Some number) → count < 256 → OtherSchema format columns (7 ∷ count ∷ told) number
-other_schema format columns told count rest number so few =
-    let d = so.so_far in
+pub other_schema : (format : Format) (columns : List Column) (told : List ℕ) (count : ℕ) (rest : List ℕ) (now : ToldColumns) (number : ℕ) → SchemaSoFar format columns told count rest now → now.differs ≡ Some number → count < 256 → OtherSchema format columns (7 ∷ count ∷ told) number
+other_schema format columns told count rest now number so some few =
+    let d : Differed columns so.others number = subst (DiffersSoFar columns so.others now.own now.wider) some so.so_far in
     record {
       others = so.others;
       rest = rest;
       is = record { is = record { few = subst (λ n. n < 256) (sym so.count_is) few; names = so.names }; may = so.may };
-      base_is = told_schema format columns told count rest (Some number) so;
-      differ = record { same = d.same; rest = d.rest; other_rest = d.told ∷ d.others_rest; columns_are = d.columns_are; others_are = d.others_are; differ = d.differ; number_is = d.number_is };
+      base_is = told_schema format columns told count rest now so;
+      differ = record { front = d.front; other_front = d.told_front; rest = d.rest; other_rest = d.column ∷ d.told_rest; columns_are = d.columns_are; others_are = d.told_are; agree = d.agree; differ = d.differ; number_is = d.number_is };
     }
 
 some_left : (behind : List Column) → 0 < length behind → DifferFirst behind []
@@ -199,19 +144,23 @@ some_left [] lt = omega arith
 some_left (c ∷ cs) lt = tt
 
 -- fewer columns were told than there are
-pub less_schema : (format : Format) (columns : List Column) (told : List ℕ) (count : ℕ) (rest : List ℕ) → SchemaSoFar format columns told count rest None → count < 256 → count < length columns → OtherSchema format columns (7 ∷ count ∷ told) (count + 1)
-less_schema format columns told count rest so few lt = record {
-  others = so.others;
-  rest = rest;
-  is = record { is = record { few = subst (λ n. n < 256) (sym so.count_is) few; names = so.names }; may = so.may };
-  base_is = told_schema format columns told count rest None so;
-  differ = record {
-    same = so.others;
-    rest = so.so_far.0;
-    other_rest = [];
-    columns_are = so.so_far.1;
-    others_are = sym (append-nil so.others);
-    differ = some_left so.so_far.0 (omega (arith, ap length so.so_far.1, length-append so.others so.so_far.0, so.count_is));
-    number_is = ap (λ n. n + 1) (sym so.count_is);
-  };
-}
+pub less_schema : (format : Format) (columns : List Column) (told : List ℕ) (count : ℕ) (rest : List ℕ) (now : ToldColumns) → SchemaSoFar format columns told count rest now → now.differs ≡ None → count < 256 → count < length now.own → OtherSchema format columns (7 ∷ count ∷ told) (count + 1)
+less_schema format columns told count rest now so none few lt =
+    let fit : WiderSoFar columns so.others now.own now.wider = subst (DiffersSoFar columns so.others now.own now.wider) none so.so_far in
+    record {
+      others = so.others;
+      rest = rest;
+      is = record { is = record { few = subst (λ n. n < 256) (sym so.count_is) few; names = so.names }; may = so.may };
+      base_is = told_schema format columns told count rest now so;
+      differ = record {
+        front = fit.front;
+        other_front = so.others;
+        rest = fit.behind;
+        other_rest = [];
+        columns_are = fit.columns_are;
+        others_are = sym (append-nil so.others);
+        agree = fit.agree;
+        differ = some_left fit.behind (omega (arith, lt, ap length fit.own_is, length-append so.others fit.behind, so.count_is));
+        number_is = ap (λ n. n + 1) (sym so.count_is ∙ sym (length-wider fit.front so.others fit.agree));
+      };
+    }

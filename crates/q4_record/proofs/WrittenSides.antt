@@ -10,7 +10,7 @@ use Rattle.q4_record.specs.declared.header.Format.TheVariants.{Second}
 use Rattle.q4_record.specs.Record.{Record}
 use Rattle.q4_record.specs.Schema.{MayHave}
 use Rattle.q4_record.specs.Replay.{at_batches}
-use Rattle.q4_record.specs.Side.{side_limit, generation_limit, base_at, told_at, generation_of, base_length_of, base_of, behind_base, batches_bytes, BatchesStand, after_batches, HasRoom, IsBase, Side}
+use Rattle.q4_record.specs.Side.{side_limit, generation_limit, base_at, told_at, generation_of, base_length_of, base_of, behind_base, batches_bytes, BatchesStand, after_batches, HasRoom, IsBase, OwnSide}
 use Rattle.q4_record.specs.Written.{side_bytes, base_bytes, base_records, written, written_table, written_length, IsWritten}
 use Rattle.q4_record.proofs.WrittenBases.{base_written}
 
@@ -40,7 +40,7 @@ side_length generation base behind = omega (arith, length-append base behind)
 -- whatever base leads to the table, with batches behind it
 pub base_side : (columns : List Column) (base : List ℕ) (table : TableState) (generation : ℕ) (batches : List (List Record)) (closing : ℕ) (ignored : List ℕ) → IsBase Second columns base table → 1 ≤ generation → generation ≤ generation_limit → BatchesStand (at_batches table) batches → closing ≢ 1
     → length (side_bytes generation base (batches_bytes batches ++ closing ∷ ignored)) ≤ side_limit → HasRoom (written_table table batches) (base_at + length base + length (batches_bytes batches) + 1)
-    → Side columns (side_bytes generation base (batches_bytes batches ++ closing ∷ ignored)) (written_table table batches) generation (base_at + length base + length (batches_bytes batches) + 1)
+    → OwnSide columns (side_bytes generation base (batches_bytes batches ++ closing ∷ ignored)) (written_table table batches) generation (base_at + length base + length (batches_bytes batches) + 1)
 base_side columns base table generation batches closing ignored leads positive limit stand closed few room =
     let behind = batches_bytes batches ++ closing ∷ ignored in
     let long = side_length generation base behind in
@@ -77,7 +77,7 @@ base_side columns base table generation batches closing ignored leads positive l
     }
 
 pub written_side : (table : TableState) (generation : ℕ) (batches : List (List Record)) (closing : ℕ) (ignored : List ℕ) → IsWritten table generation batches closing ignored
-    → Side table.columns (written table generation batches closing ignored) (written_table table batches) generation (written_length table batches)
+    → OwnSide table.columns (written table generation batches closing ignored) (written_table table batches) generation (written_length table batches)
 written_side table generation batches closing ignored w =
     let stands = base_written table w.valid w.unowned in
     base_side table.columns (base_bytes table) table generation batches closing ignored (record { may = all_may table.columns; records = base_records table; base_is = refl; stand = stands.stand; replay_is = stands.replay_is }) w.positive w.limit w.stand w.closed w.few w.room

@@ -3,6 +3,7 @@ use Rattle.std.specs.Prelude.{◌≡◌, ◌≢◌, ◌<◌, ◌≤◌, ◌+◌,
 use Rattle.std.specs.Int.{w32, to_be_bytes}
 use Rattle.q4_value.specs.declared.column.Column.{Column}
 use Rattle.q4_value.specs.Reading.{told_length}
+use Rattle.q4_value.specs.Row.{AreWider}
 use Rattle.q4_table.specs.TableState.{TableState}
 use Rattle.q4_record.specs.declared.header.Format.{Format}
 use Rattle.q4_record.specs.declared.replay.Replay.{Replay}
@@ -13,7 +14,7 @@ use Rattle.q4_record.specs.Record.{Record, records_bytes}
 use Rattle.q4_record.specs.Replay.{replays, at_base, AllStand}
 use Rattle.q4_record.specs.Reading.{SectionFails}
 use Rattle.q4_record.specs.Schema.{schema_bytes, MayHave, SchemaFails}
-use Rattle.q4_record.specs.Side.{side_limit, generation_limit, base_at, base_of, generation_of, format_of, IsOpen, HasHeader, Begins, Reaches, IsWhole, place_behind, HasRoom}
+use Rattle.q4_record.specs.Side.{side_limit, generation_limit, base_at, base_of, generation_of, format_of, IsOpen, HasHeader, Begins, Reaches, IsWhole, place_behind, HasRoom, OwnSide}
 
 -- Why the header does not stand, at an open gate. Too many bytes go before damage, and damage before too great a
 -- generation.
@@ -42,12 +43,9 @@ pub record Unfinished (format : Format) (columns : List Column) (base : List ℕ
   pub unfinished : (replays (at_base columns) records).stage ≢ stage.Whole
   pub why_is : why ≡ fault.Damaged (base_at + length base)
 
--- Why the base does not stand.
+-- Why the base does not stand behind its schema, which is of these columns.
 abbrev pub BaseFails : Format → List Column → List ℕ → SideFault → Type 0
-BaseFails format columns base why =
-    SchemaFails format columns base base_at why
-    ⊎ RecordsFail format columns base why
-    ⊎ Unfinished format columns base why
+BaseFails format columns base why = RecordsFail format columns base why ⊎ Unfinished format columns base why
 
 -- behind a batch's gate: the bytes end within the length or the records, or leave no closing gate
 abbrev pub EndsInBatch : List ℕ → Type 0
@@ -84,13 +82,36 @@ pub record LacksRoom (columns : List Column) (bytes : List ℕ) (why : SideFault
   pub lacks : HasRoom table len → ⊥
   pub why_is : why ≡ fault.Large 8
 
--- Why an open side stands for no table.
+-- Why a side whose schema is of these columns stands for no table.
+abbrev pub OwnFails : List Column → List ℕ → SideFault → Type 0
+OwnFails own bytes why =
+    (Begins bytes × BaseFails (format_of bytes) own (base_of bytes) why)
+    ⊎ BatchesFail own bytes why
+    ⊎ LacksRoom own bytes why
+
+-- The columns given are the side's own or are wider, and a part behind its schema does not stand.
+pub record PartsFail (columns : List Column) (bytes : List ℕ) (why : SideFault) : Type 0 where
+  pub own : List Column
+  pub wider : AreWider columns own
+  pub fails : OwnFails own bytes why
+
+-- All of it stands, the columns given are wider than its own, and there is no greater generation.
+pub record IsSpent (columns : List Column) (bytes : List ℕ) (why : SideFault) : Type 0 where
+  pub own : List Column
+  pub own_table : TableState
+  pub len : ℕ
+  pub wider : AreWider columns own
+  pub other : own ≢ columns
+  pub stands : OwnSide own bytes own_table generation_limit len
+  pub why_is : why ≡ fault.Large 7
+
+-- Why an open side stands for no table. Its own columns being narrower counts last.
 abbrev pub OpenFails : List Column → List ℕ → SideFault → Type 0
 OpenFails columns bytes why =
     HeaderFails bytes why
-    ⊎ (Begins bytes × BaseFails (format_of bytes) columns (base_of bytes) why)
-    ⊎ BatchesFail columns bytes why
-    ⊎ LacksRoom columns bytes why
+    ⊎ (Begins bytes × SchemaFails (format_of bytes) columns (base_of bytes) base_at why)
+    ⊎ PartsFail columns bytes why
+    ⊎ IsSpent columns bytes why
 
 -- Why the bytes are no side. Memory may be wanted at any time.
 abbrev pub SideFails : List Column → List ℕ → SideFault → Type 0

@@ -1,9 +1,10 @@
 -- The schema record of a side: the columns of its rows.
-use Rattle.std.specs.Prelude.{◌≡◌, ◌≢◌, ◌<◌, ◌+◌, ℕ, Bool, true, false, List, [], ◌∷◌, ◌++◌, length, All}
+use Rattle.std.specs.Prelude.{◌≡◌, ◌<◌, ◌+◌, ℕ, Bool, true, false, List, [], ◌∷◌, ◌++◌, length, All}
 use Rattle.std.specs.List.{flat_map}
 use Rattle.q4_value.specs.declared.column.Column.{Column}
 use Rattle.q4_value.specs.declared.column.Kind.{Kind}
 use Rattle.q4_value.specs.declared.column.Kind.TheVariants as kind
+use Rattle.q4_value.specs.Row.{IsWider, AreWider}
 use Rattle.q4_record.specs.declared.header.Format.{Format}
 use Rattle.q4_record.specs.declared.header.Format.TheVariants.{First, Second}
 use Rattle.q4_record.specs.declared.side.SideFault.{SideFault}
@@ -42,24 +43,26 @@ pub record IsSchemaOf (format : Format) (columns : List Column) : Type 0 where
   pub is : IsSchema columns
   pub may : All (MayHave format) columns
 
--- not the same first column: one is another, or is there in one list alone
+-- the first column given neither is that told nor is wider, or is there in one list alone
 abbrev pub DifferFirst : List Column → List Column → Type 0
 DifferFirst [] [] = ⊥
 DifferFirst [] (d ∷ ds) = Unit {0}
 DifferFirst (c ∷ cs) [] = Unit {0}
-DifferFirst (c ∷ cs) (d ∷ ds) = c ≢ d
+DifferFirst (c ∷ cs) (d ∷ ds) = IsWider c d → ⊥
 
--- The columns before this one are the same, counted from 1, and this one is not.
+-- Each column before this one is that told or is wider, counted from 1, and this one is not.
 pub record DifferAt (columns others : List Column) (number : ℕ) : Type 0 where
-  pub same : List Column
+  pub front : List Column
+  pub other_front : List Column
   pub rest : List Column
   pub other_rest : List Column
-  pub columns_are : columns ≡ same ++ rest
-  pub others_are : others ≡ same ++ other_rest
+  pub columns_are : columns ≡ front ++ rest
+  pub others_are : others ≡ other_front ++ other_rest
+  pub agree : AreWider front other_front
   pub differ : DifferFirst rest other_rest
-  pub number_is : number ≡ length same + 1
+  pub number_is : number ≡ length front + 1
 
--- Columns that the format has are spelled at the front, and differ from the definition's.
+-- Columns that the format has are spelled at the front, and those given neither are these nor are wider.
 pub record OtherSchema (format : Format) (columns : List Column) (base : List ℕ) (number : ℕ) : Type 0 where
   pub others : List Column
   pub rest : List ℕ
@@ -67,8 +70,8 @@ pub record OtherSchema (format : Format) (columns : List Column) (base : List �
   pub base_is : base ≡ schema_bytes others ++ rest
   pub differ : DifferAt columns others number
 
--- Why the base, which begins at a place, does not begin with the definition's schema: it begins with none of the format,
--- or with another.
+-- Why the base, which begins at a place, does not begin with the schema of the columns given or a narrower one: it begins
+-- with none of the format, or with another.
 abbrev pub SchemaFails : Format → List Column → List ℕ → ℕ → SideFault → Type 0
 SchemaFails format columns base at fault.Closed = ⊥
 SchemaFails format columns base at (fault.Damaged place) =

@@ -1,8 +1,9 @@
 -- What a side is: the parts that it has, and the table that they stand for.
-use Rattle.std.specs.Prelude.{◌≡◌, ◌≢◌, ◌≤◌, ◌+◌, ◌*◌, ◌^◌, ◌==◌, ◌⊎◌, ℕ, List, [], ◌∷◌, ◌++◌, length, take, drop, fold, codes, slice_index, if◌then◌else◌, All}
+use Rattle.std.specs.Prelude.{◌≡◌, ◌≢◌, ◌<◌, ◌≤◌, ◌+◌, ◌*◌, ◌^◌, ◌==◌, ◌⊎◌, ℕ, List, [], ◌∷◌, ◌++◌, length, take, drop, fold, codes, slice_index, if◌then◌else◌, All}
 use Rattle.std.specs.Int.{w32, w64, to_be_bytes, from_be_bytes}
 use Rattle.std.specs.List.{flat_map}
 use Rattle.q4_value.specs.declared.column.Column.{Column}
+use Rattle.q4_value.specs.Row.{AreWider}
 use Rattle.q4_table.specs.TableState.{TableState}
 use Rattle.q4_record.specs.declared.header.Format.{Format}
 use Rattle.q4_record.specs.declared.header.Format.TheVariants.{First, Second}
@@ -128,7 +129,25 @@ pub record IsWhole (columns : List Column) (bytes : List ℕ) (table : TableStat
 abbrev pub HasRoom : TableState → ℕ → Type 0
 HasRoom table len = len + 32 * length table.rows ≤ side_limit
 
--- The bytes are a side of these columns, which stands for the table, with this generation and length.
-pub record Side (columns : List Column) (bytes : List ℕ) (table : TableState) (generation len : ℕ) : Type 0 where
+-- The bytes are a side whose schema is of these very columns, which stands for the table, with this generation and length.
+pub record OwnSide (columns : List Column) (bytes : List ℕ) (table : TableState) (generation len : ℕ) : Type 0 where
   pub stands : IsWhole columns bytes table generation len
   pub room : HasRoom table len
+
+-- The bytes are a side of its own columns, than which those given are wider or the same. It stands for the table with the
+-- columns given. Where they are wider there is a greater generation.
+pub record Side (columns : List Column) (bytes : List ℕ) (table : TableState) (generation len : ℕ) : Type 0 where
+  pub own : List Column
+  pub own_table : TableState
+  pub wider : AreWider columns own
+  pub stands : OwnSide own bytes own_table generation len
+  pub table_is : table ≡ record own_table { columns = columns }
+  pub greater : own ≢ columns → generation < generation_limit
+
+-- The side's schema is narrower than the columns given.
+pub record IsNarrow (columns : List Column) (bytes : List ℕ) : Type 0 where
+  pub own : List Column
+  pub rest : List ℕ
+  pub base_is : base_of bytes ≡ schema_bytes own ++ rest
+  pub wider : AreWider columns own
+  pub other : own ≢ columns

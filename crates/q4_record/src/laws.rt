@@ -1,6 +1,6 @@
 //! What holds of sides whatever a call does. These functions do nothing: their contracts are the laws.
 
-ghost use Rattle.std.specs.Prelude.{◌≡◌, ◌⊎◌, ℕ, List, [], Option};
+ghost use Rattle.std.specs.Prelude.{◌≡◌, ◌<◌, ◌⊎◌, ℕ, List, [], Option};
 ghost use Rattle.std.specs.Option.{ForSome};
 ghost use Rattle.q4_value.specs.declared.column.Column.{Column as Header};
 ghost use Rattle.q4_value.specs.declared.row.Value.{Value as Field};
@@ -18,7 +18,7 @@ ghost use Rattle.q4_record.specs.declared.side.SideFault.TheVariants as fault;
 ghost use Rattle.q4_record.specs.Record.{Record as SideRecord};
 ghost use Rattle.q4_record.specs.Schema.{IsSchema};
 ghost use Rattle.q4_record.specs.Replay.{Stands, replayed, at_batches};
-ghost use Rattle.q4_record.specs.Side.{IsBase, Side};
+ghost use Rattle.q4_record.specs.Side.{generation_limit, IsBase, OwnSide, Side, IsNarrow};
 ghost use Rattle.q4_record.specs.Faults.{SideFails};
 ghost use Rattle.q4_record.specs.Written.{IsSound, IsWritten, written, written_table, written_length};
 ghost use Rattle.q4_record.specs.Parted.{BaseParts};
@@ -36,11 +36,28 @@ pub fn side_laws()
         → (why ≡ way) ⊎ (why ≡ fault.Memory) ⊎ (way ≡ fault.Memory) }
 {}
 
+/// Laws of sides whose schema is narrower than the columns.
+pub fn narrow_laws()
+    // A side whose schema is of the columns is a side of these.
+    ensures own { (columns : List Header) (bytes : List ℕ) (table : TableState) (generation len : ℕ)
+        → OwnSide columns bytes table generation len → Side columns bytes table generation len }
+    // Its schema is no narrower one.
+    ensures apart { (columns : List Header) (bytes : List ℕ) (table : TableState) (generation len : ℕ)
+        → OwnSide columns bytes table generation len → IsNarrow columns bytes → ⊥ }
+    // A side whose schema is not narrower is one whose schema is of the columns.
+    ensures same { (columns : List Header) (bytes : List ℕ) (table : TableState) (generation len : ℕ)
+        → Side columns bytes table generation len → (IsNarrow columns bytes → ⊥)
+        → OwnSide columns bytes table generation len }
+    // Where it is narrower there is a greater generation.
+    ensures limit { (columns : List Header) (bytes : List ℕ) (table : TableState) (generation len : ℕ)
+        → Side columns bytes table generation len → IsNarrow columns bytes → generation < generation_limit }
+{}
+
 /// A law: whatever valid table is written as a base, with a schema, a record for each row and mark and a next record,
 /// and with any batches behind it that stand, is read again.
 pub fn written_sides_are_read()
     ensures { (table : TableState) (generation : ℕ) (batches : List (List SideRecord)) (closing : ℕ) (ignored : List ℕ) → IsWritten table generation batches closing ignored
-        → Side table.columns (written table generation batches closing ignored) (written_table table batches) generation (written_length table batches) }
+        → OwnSide table.columns (written table generation batches closing ignored) (written_table table batches) generation (written_length table batches) }
 {}
 
 /// Laws: the record of a change that a table takes stands in a batch behind the table, and leads to the changed table.

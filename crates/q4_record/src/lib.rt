@@ -15,7 +15,8 @@ mod writing;
 pub use extent::optional_count;
 pub use header::{BASE_AT, GENERATION_LIMIT, SIDE_LIMIT, has_magic, number_at};
 pub use laws::{
-    bases_have_their_order, changes_stand, side_laws, sides_are_sound, written_sides_are_read,
+    bases_have_their_order, changes_stand, narrow_laws, side_laws, sides_are_sound,
+    written_sides_are_read,
 };
 pub use reserved::{spell_end, spell_insert};
 pub use side::{SideFault, read_side};

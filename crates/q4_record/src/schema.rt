@@ -1,12 +1,13 @@
-ghost use Rattle.std.specs.Prelude.{◌≡◌, ◌≢◌, ◌<◌, ◌∷◌, ◌++◌, ℕ, List, Some, length, slice_get, All, IfOk, IfErr, OnOk, IfSome, IfNone};
-ghost use Rattle.std.specs.Bool.{OnTrue, OnFalse};
+ghost use Rattle.std.specs.Prelude.{◌≡◌, ◌<◌, [], ◌∷◌, ◌++◌, ℕ, false, List, Some, length, slice_get, slice_set, unwrap_or, IfOk, IfErr, OnOk, IfSome, IfNone};
+ghost use Rattle.std.specs.Option.{option_copied};
 ghost use Rattle.q4_value.specs.declared.column.Column.{Column as Header};
-ghost use Rattle.q4_record.specs.Schema.{IsSchema, MayHave, kind_number, kind_byte, column_bytes, schema_bytes, SchemaFails};
-ghost use Rattle.q4_record.specs.SideParts.{DiffersNext};
+ghost use Rattle.q4_record.specs.Schema.{MayHave, kind_number, kind_byte, column_bytes};
+ghost use Rattle.q4_record.specs.SideParts.{HasLikeness, ToldSoFar, SchemaRead, SchemaFailed};
 
 use crate::header::Format;
 use crate::side::SideFault;
-use q4_value::{Column, Kind};
+use q4_value::{Column, Columns, Kind, NoMemory};
+use std::alloc::Global;
 
 // What a column takes, as a schema tells it.
 #[derive(Clone, Copy)]
@@ -15,38 +16,58 @@ struct Sort {
     optional: bool,
 }
 
-// Reads the schema at the front of a base of this format, which begins at this place, and gives what follows it. The
-// schema has to be that of the columns.
-pub fn read_schema<'a>(
+// What a schema tells of a side.
+#[derive(Drop)]
+pub(crate) struct Schema<'a> {
+    // The side's own columns.
+    pub(crate) own: Columns,
+    // The columns given, where they are wider than those.
+    pub(crate) wider: Option<Columns>,
+    // What follows the schema.
+    pub(crate) records: &'a [u8],
+}
+
+// Reads the schema at the front of a base of this format, which begins at this place. The columns given have to be those
+// that it tells, or wider ones. They are copied where they are wider.
+pub(crate) fn read_schema(
+    alloc: Global,
     format: Format,
-    columns: &[Column],
-    base: &'a [u8],
+    columns: Columns,
+    base: &[u8],
     at: u64,
-) -> Result<&'a [u8], SideFault>
-    requires { IsSchema columns.now }
-    ensures read { IfOk result (λ rest. base.now ≡ schema_bytes columns.now ++ rest.now) }
-    ensures may { OnOk result (All (MayHave format) columns.now) }
-    ensures fault { IfErr result (SchemaFails format columns.now base.now at) }
+) -> Result<Schema<'_>, SideFault>
+    ensures read { IfOk result (λ schema. SchemaRead format columns base.now
+        schema.own schema.wider schema.records.now) }
+    ensures fault { IfErr result (SchemaFailed format columns base.now at) }
 {
     let Some((count, told)) = read_count(base) else {
         return Err(SideFault::Damaged(at));
     };
     let mut rest = told;
-    let mut differs = None;
+    let mut so_far = ToldColumns::new(columns);
     for place in 0..count as usize {
         let Some((sort, name, after)) = read_column(format, rest) else {
             return Err(SideFault::Damaged(at));
         };
-        differs = first_difference(differs, columns, place, sort, name);
+        so_far.tell(alloc, place, sort, name)?;
         rest = after;
     }
+    let ToldColumns {
+        own,
+        wider,
+        differs,
+    } = so_far;
     match differs {
         Some(number) => Err(SideFault::Schema(number)),
         None => {
-            if (count as usize) < columns.len() {
+            if (count as usize) < own.len() {
                 Err(SideFault::Schema(count as u32 + 1))
             } else {
-                Ok(rest)
+                Ok(Schema {
+                    own,
+                    wider,
+                    records: rest,
+                })
             }
         }
     }
@@ -64,51 +85,93 @@ fn read_count(bytes: &[u8]) -> Option<(u8, &[u8])>
     }
 }
 
-// The first column that differs, counted from 1, with the column that is told for this place.
-fn first_difference(
+// How a column given stands to the one that is told for its place.
+#[derive(Clone, Copy)]
+enum Likeness {
+    // It is the same.
+    Same,
+    // It takes null, and is the same otherwise.
+    Wider,
+    // It is another, or there is none.
+    Other,
+}
+
+// The columns of a side, as far as they were told.
+#[derive(Drop)]
+struct ToldColumns {
+    // Those that were told, and behind them those given.
+    own: Columns,
+    // The columns given, where one of them is wider than that told.
+    wider: Option<Columns>,
+    // The first column given, counted from 1, that is another than that told.
     differs: Option<u32>,
-    columns: &[Column],
-    place: usize,
-    sort: Sort,
-    name: &[u8],
-) -> Option<u32>
-    requires { place < 256 }
-    ensures { DiffersNext differs (slice_get columns.now place)
-        (record { name = name.now; kind = sort.kind; optional = sort.optional }) place result }
-{
-    match differs {
-        Some(number) => Some(number),
-        None => {
-            if is_column(columns, place, sort, name) {
-                None
-            } else {
-                Some(place as u32 + 1)
+}
+
+impl ToldColumns {
+    // No column was told yet.
+    fn new(columns: Columns) -> ToldColumns
+        ensures { ToldSoFar columns [] result }
+    {
+        ToldColumns {
+            own: columns,
+            wider: None,
+            differs: None,
+        }
+    }
+
+    // Takes the column that is told for this place.
+    fn tell(&mut self, alloc: Global, place: usize, sort: Sort, name: &[u8]) -> Result<(), NoMemory>
+        requires { place < 256 }
+        ensures { OnOk result ((columns told : List Header) → length told ≡ place
+            → ToldSoFar columns told self.old
+            → ToldSoFar columns (told ++ record { name = name.now; kind = sort.kind; optional = sort.optional } ∷ [])
+            self.new) }
+    {
+        if self.differs.is_some() {
+            return Ok(());
+        }
+        match likeness_of(self.own.at(place), sort, name) {
+            Likeness::Same => Ok(()),
+            Likeness::Wider => self.narrow(alloc, place),
+            Likeness::Other => {
+                self.differs = Some(place as u32 + 1);
+                Ok(())
             }
         }
     }
+
+    // Has the column at this place take no null. The columns given are kept.
+    fn narrow(&mut self, alloc: Global, place: usize) -> Result<(), NoMemory>
+        requires { place < length self.old.own }
+        ensures own { OnOk result ((column : Header) → slice_get self.old.own place ≡ Some column
+            → self.new.own ≡ slice_set self.old.own place (record column { optional = false })) }
+        ensures given { OnOk result (self.new.wider ≡ Some (unwrap_or self.old.wider self.old.own)) }
+        ensures differs { OnOk result (self.new.differs ≡ self.old.differs) }
+    {
+        if self.wider.is_none() {
+            self.wider = Some(self.own.copy(alloc)?);
+        }
+        self.own.require(place);
+        Ok(())
+    }
 }
 
-// Whether the column at this place is there, and is of this sort and name.
-fn is_column(columns: &[Column], place: usize, sort: Sort, name: &[u8]) -> bool
-    ensures is { OnTrue result (slice_get columns.now place
-        ≡ Some (record { name = name.now; kind = sort.kind; optional = sort.optional })) }
-    ensures other { OnFalse result (slice_get columns.now place
-        ≢ Some (record { name = name.now; kind = sort.kind; optional = sort.optional })) }
+// How the column given stands to the one that is told, of this sort and name.
+fn likeness_of(column: Option<&Column>, sort: Sort, name: &[u8]) -> Likeness
+    ensures { HasLikeness result (option_copied column.entry)
+        (record { name = name.now; kind = sort.kind; optional = sort.optional }) }
 {
-    if place >= columns.len() {
-        return false;
+    let Some(column) = column else {
+        return Likeness::Other;
+    };
+    if column.kind != sort.kind || column.name.as_str().as_bytes() != name {
+        return Likeness::Other;
     }
-    same_column(&columns[place], sort, name)
-}
-
-fn same_column(column: &Column, sort: Sort, name: &[u8]) -> bool
-    ensures same { OnTrue result (column.now ≡ record { name = name.now; kind = sort.kind; optional = sort.optional }) }
-    ensures other { OnFalse result (column.now ≢ record { name = name.now; kind = sort.kind; optional = sort.optional }) }
-{
-    if column.kind != sort.kind || column.optional != sort.optional {
-        return false;
+    match (column.optional, sort.optional) {
+        (true, false) => Likeness::Wider,
+        (false, true) => Likeness::Other,
+        (false, false) | (true, true) => Likeness::Same,
     }
-    column.name.as_str().as_bytes() == name
 }
 
 // The sort and the name of the column at the front of those that a schema of this format tells, and what follows it.

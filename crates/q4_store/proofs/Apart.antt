@@ -20,8 +20,8 @@ use Rattle.q4_store.proofs.Drafts.{is_schema}
 
 -- the current side and the one behind it have the magic
 has_magic : (columns : List Column) (s x : Side) (c : Sides) (table : TableState) (g n : ℕ) → IsCurrent s c → IsSide columns (on s c) table g n → IsOpen (on x c) → HasMagic (on x c)
-has_magic columns A A c table g n current stands is_open = stands.stands.reaches.begins.header.magic
-has_magic columns B B c table g n current stands is_open = stands.stands.reaches.begins.header.magic
+has_magic columns A A c table g n current stands is_open = stands.stands.stands.reaches.begins.header.magic
+has_magic columns B B c table g n current stands is_open = stands.stands.stands.reaches.begins.header.magic
 has_magic columns A B c table g n current stands is_open = (current.behind is_open).0
 has_magic columns B A c table g n current stands is_open = (current.behind is_open).0
 

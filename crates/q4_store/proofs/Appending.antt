@@ -19,7 +19,7 @@ use Rattle.q4_record.specs.Record.{Record, record_bytes}
 use Rattle.q4_record.specs.Replay.{replayed, replays, at_batches, Stands, AllStand}
 use Rattle.q4_record.proofs.Changes.{added_stands, ended_stands}
 use Rattle.q4_disk.specs.Told.{Sides, Told}
-use Rattle.q4_store.specs.Reading.{Reads}
+use Rattle.q4_store.specs.Reading.{ReadsOwn}
 use Rattle.q4_store.specs.Content.{Content, row_added, row_ended, table_of, with_change, IsPrefix}
 use Rattle.q4_table.specs.Adding.{add_row}
 use Rattle.std.specs.Option.{ForSome}
@@ -42,7 +42,7 @@ prefix_more : (content : Content) (change : Record) (generation : ℕ) (c : Side
 prefix_more content change generation c p = record {
   count = p.count;
   within = omega (arith, p.within, length-append content.pending (change ∷ []));
-  reads = subst (λ (rs : List Record). Reads content.committed.columns c (replays (at_batches content.committed) rs).table generation) (sym (take-append-le p.count content.pending (change ∷ []) p.within)) p.reads;
+  reads = subst (λ (rs : List Record). ReadsOwn content.committed.columns c (replays (at_batches content.committed) rs).table generation) (sym (take-append-le p.count content.pending (change ∷ []) p.within)) p.reads;
 }
 
 pub appended : {D : Type 0} (told : D → Told) (store : Stored D) (content : Content) (change : Record) (records ends : List ℕ) (rows reserved : ℕ) → StandsFor told store content → Stands (at_batches (table_of content)) change

@@ -7,7 +7,7 @@ use Rattle.q4_record.specs.declared.head.Head.{Head}
 use Rattle.q4_record.specs.declared.head.Head.TheVariants.{Insert, End, Mark, Next}
 use Rattle.q4_record.specs.Record.{Record, head_bytes, records_bytes}
 use Rattle.q4_record.specs.Replay.{at_batches}
-use Rattle.q4_record.specs.Side.{side_limit, base_at, generation_of, Side as IsSide}
+use Rattle.q4_record.specs.Side.{side_limit, base_at, generation_of, OwnSide}
 use Rattle.q4_disk.specs.declared.disk.Side.{Side}
 use Rattle.q4_disk.specs.declared.disk.Side.TheVariants.{A, B}
 use Rattle.q4_disk.specs.Told.{Sides, Told}
@@ -75,14 +75,14 @@ ready_stays known side generation old new stays was now ready c left =
 -- in each image of a settled store the current side is open
 pub settled_holds : (told : Told) (side : Side) (table : TableState) (generation end : ℕ) → IsSettled told side table generation end → Within told.images (Holds side generation)
 settled_holds told side table generation end s c left =
-    side_holds table.columns side c table generation end (subst (λ (l : List ℕ). IsSide table.columns l table generation end) (sym (s.only c left)) s.stands)
+    side_holds table.columns side c table generation end (subst (λ (l : List ℕ). OwnSide table.columns l table generation end) (sym (s.only c left)) s.stands)
 
 -- a settled store has what it stands for in each image
 pub settled_reads : (told : Told) (side : Side) (table : TableState) (generation end : ℕ) → IsSettled told side table generation end → (c : Sides) → told.images c → IsPrefix (record { committed = table; pending = [] }) generation c
 settled_reads told side table generation end s c left = record {
   count = 0;
   within = omega arith;
-  reads = reads_current table.columns side c table generation end (subst (λ (l : List ℕ). IsSide table.columns l table generation end) (sym (s.only c left)) s.stands) (s.behind c left);
+  reads = reads_current table.columns side c table generation end (subst (λ (l : List ℕ). OwnSide table.columns l table generation end) (sym (s.only c left)) s.stands) (s.behind c left);
 }
 
 -- after a commit that failed

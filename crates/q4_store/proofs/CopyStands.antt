@@ -1,7 +1,7 @@
 -- A store while the other side is written on.
 use Rattle.std.proofs.Common.{◌≡◌, ℕ, ◌<◌, Bool, true, false, List, [], ◌∷◌, None, Some, Option, replicate, refl, sym, ap, subst, ◌∙◌, append-nil, inl, inr, IsTrue, arith}
 use Rattle.std.specs.Option.{ForSome}
-use Rattle.q4_record.specs.Side.{base_at, gate_of, generation_limit, Side as IsSide}
+use Rattle.q4_record.specs.Side.{base_at, gate_of, generation_limit, OwnSide}
 use Rattle.q4_disk.specs.declared.disk.Side.{Side}
 use Rattle.q4_disk.specs.declared.disk.Side.TheVariants.{A, B}
 use Rattle.q4_disk.specs.Told.{Sides, Told}
@@ -11,11 +11,12 @@ use Rattle.q4_disk.proofs.Moments.{weaker}
 use Rattle.q4_store.specs.declared.copying.Progress.{Progress}
 use Rattle.q4_store.specs.Reading.{IsBehind, ReadsAs}
 use Rattle.q4_store.specs.Parts.{IsBlank, IsReady}
-use Rattle.q4_store.specs.Content.{Content, table_of, IsPrefix}
+use Rattle.q4_store.specs.Content.{Content, table_of, table_with, IsPrefix}
 use Rattle.std.specs.List.{sum_by}
 use Rattle.q4_store.specs.Copied.{rows_from, row_cost}
 use Rattle.q4_store.specs.Store.{Stored, StandsFor, CopyStands, IsSettled}
 use Rattle.q4_store.proofs.Lifting.{Holds, side_holds}
+use Rattle.q4_store.proofs.Quiet.{own_alike}
 use Rattle.q4_store.proofs.Parting.{rise_from, all_from}
 use Rattle.q4_store.proofs.CopyRecords.{copy_begun}
 
@@ -32,7 +33,7 @@ ready_behind false A generation c holds (inr outdone) is_open = let lesser = out
 ready_behind false B generation c holds (inr outdone) is_open = let lesser = outdone.lesser in (outdone.magic, omega (arith, lesser, holds.1))
 
 pub prefix_as : (content : Content) (generation : ℕ) (images : Sides → Type 0) → Within images (IsPrefix content generation) → (c : Sides) → ReadsAs content.committed.columns images c → IsPrefix content generation c
-prefix_as content generation images each c like = let p = each like.0 like.1 in record { count = p.count; within = p.within; reads = like.2.forth _ _ p.reads }
+prefix_as content generation images each c like = let p = each like.0 like.1 in record { count = p.count; within = p.within; reads = own_alike content.committed.columns like.0 c (table_with content p.count) generation like.2 p.reads }
 
 pub some_same : (one two : Progress) → Some one ≡ Some two → one ≡ two
 some_same one two is = cc is
@@ -52,7 +53,7 @@ module _ {D : Type 0} (told : D → Told) (store : Stored D) (content : Content)
   settled_beside known h read stays ready =
       let t = s.settled h whole in
       let each : (c : Sides) → (told new).images c → on store.side c ≡ on store.side old.bytes = λ c left. let from = current_stays store.side old (told new) stays c left in from.2 ∙ t.only from.0 from.1 in
-      let stands : (c : Sides) → (told new).images c → IsSide content.committed.columns (on store.side c) content.committed store.generation store.end = λ c left. subst (λ (l : List ℕ). IsSide content.committed.columns l content.committed store.generation store.end) (sym (each c left)) t.stands in
+      let stands : (c : Sides) → (told new).images c → OwnSide content.committed.columns (on store.side c) content.committed store.generation store.end = λ c left. subst (λ (l : List ℕ). OwnSide content.committed.columns l content.committed store.generation store.end) (sym (each c left)) t.stands in
       record {
         stands = stands (told new).bytes read;
         only = λ c left. each c left ∙ sym (each (told new).bytes read);

@@ -3,7 +3,7 @@ use Rattle.std.proofs.Common.{◌≡◌, ℕ, ◌+◌, ◌-◌, ◌≤◌, List,
 use Rattle.std.proofs.lemmas.List.{length-take}
 use Rattle.q4_value.specs.declared.column.Column.{Column}
 use Rattle.q4_table.specs.TableState.{TableState}
-use Rattle.q4_record.specs.Side.{Side as IsSide}
+use Rattle.q4_record.specs.Side.{OwnSide}
 use Rattle.q4_disk.specs.declared.disk.Side.{Side}
 use Rattle.q4_disk.specs.Told.{Sides, Told}
 use Rattle.q4_disk.specs.Images.{on, other, put, written, Within}
@@ -40,12 +40,12 @@ twice_written side old one two three at place last header first second same =
     ap (on side) same ∙ ap (on side) second ∙ on_put side (written (on side one) place header) one ∙ ap (λ (l : List ℕ). written l place header) (ap (on side) first ∙ on_put side (written (on side old) at last) old)
 
 -- where that is with an open gate a side of a table, the table is there but for its gate
-pub filled_with : (old new : Told) (side : Side) (bytes : List ℕ) (columns : List Column) (table : TableState) (generation len : ℕ) → on side new.bytes ≡ bytes → IsSide columns (opened bytes) table generation len → IsShut (on side new.bytes)
+pub filled_with : (old new : Told) (side : Side) (bytes : List ℕ) (columns : List Column) (table : TableState) (generation len : ℕ) → on side new.bytes ≡ bytes → OwnSide columns (opened bytes) table generation len → IsShut (on side new.bytes)
     → Within new.images (λ c. on side c ≡ on side new.bytes) → OtherStays side old new → Within old.images (λ c. IsBehind generation (on (other side) c)) → IsFilled new side columns table generation len
 filled_with old new side bytes columns table generation len is stands shut only stays behind = record {
   shut = shut;
   only = only;
-  stands = subst (λ (l : List ℕ). IsSide columns (opened l) table generation len) (sym is) stands;
+  stands = subst (λ (l : List ℕ). OwnSide columns (opened l) table generation len) (sym is) stands;
   behind = λ c left. let from = stays.each c left in subst (IsBehind generation) (sym from.2) (behind from.0 from.1);
 }
 

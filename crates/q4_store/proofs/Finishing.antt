@@ -11,7 +11,7 @@ use Rattle.q4_table.specs.TableState.{TableState}
 use Rattle.q4_record.specs.Record.{Record, record_bytes, records_bytes}
 use Rattle.q4_record.specs.Schema.{schema_bytes}
 use Rattle.q4_record.specs.declared.header.Format.TheVariants.{Second}
-use Rattle.q4_record.specs.Side.{base_at, side_limit, generation_limit, generation_of, IsBase, HasRoom, Side as IsSide}
+use Rattle.q4_record.specs.Side.{base_at, side_limit, generation_limit, generation_of, IsBase, HasRoom, OwnSide}
 use Rattle.q4_record.specs.Written.{row_record, mark_record, next_record, side_bytes}
 use Rattle.q4_record.proofs.WrittenSides.{base_side}
 use Rattle.q4_disk.specs.declared.disk.Side.{Side}
@@ -22,7 +22,7 @@ use Rattle.q4_disk.specs.Time.{LeavesOnly, OtherStays}
 use Rattle.q4_disk.proofs.Ranges.{written_at}
 use Rattle.q4_store.specs.declared.copying.Progress.{Progress}
 use Rattle.q4_record.specs.Side.{HasMagic}
-use Rattle.q4_store.specs.Reading.{IsBehind, Reads, ReadsAs}
+use Rattle.q4_store.specs.Reading.{IsBehind, ReadsOwn, ReadsAs}
 use Rattle.q4_store.specs.Parts.{IsShut, IsReady, IsFilled, opened}
 use Rattle.q4_store.specs.Looking.{header_bytes}
 use Rattle.q4_store.specs.Content.{Content, table_of, all_committed, IsPrefixOrNew}
@@ -51,7 +51,7 @@ finished_bytes gate had last header at at_is twenty =
     ∙ ap opened (written_at (gate ∷ []) (replicate 20 0 ++ (had ++ last)) header 1 refl)
     ∙ ap (λ (l : List ℕ). 1 ∷ (header ++ l)) (drop_at (replicate 20 0) (had ++ last) (length header) (sym twenty))
 
-marks_length : (ms : List marks.Mark) → length (records_bytes (map mark_record ms)) ≡ 10 * length ms
+pub marks_length : (ms : List marks.Mark) → length (records_bytes (map mark_record ms)) ≡ 10 * length ms
 marks_length [] = refl
 marks_length (m ∷ ms) = omega (arith, ap length (flat_map-cons record_bytes (mark_record m) (map mark_record ms)), length-append (record_bytes (mark_record m)) (records_bytes (map mark_record ms)), marks_length ms)
 
@@ -67,7 +67,7 @@ some_bytes : (columns : List Column) (records : List Record) (r : Record) (rs : 
 some_bytes columns records r rs is = ap (copy_bytes columns) is ∙ ap (λ qs. schema_bytes columns ++ records_bytes qs) (sym is)
 
 -- records in front of the rest are some
-all_some : (columns : List Column) (front : List Record) (cursor : ℕ) (table : TableState) → copy_bytes columns (front ++ rest_records cursor table) ≡ schema_bytes columns ++ records_bytes (front ++ rest_records cursor table)
+pub all_some : (columns : List Column) (front : List Record) (cursor : ℕ) (table : TableState) → copy_bytes columns (front ++ rest_records cursor table) ≡ schema_bytes columns ++ records_bytes (front ++ rest_records cursor table)
 all_some columns [] cursor table = rest_some (map (row_record table.columns) (rows_from cursor table.rows)) (map mark_record table.marks)
   where
     last_some : (ms : List Record) → copy_bytes columns (ms ++ next_record table.next ∷ []) ≡ schema_bytes columns ++ records_bytes (ms ++ next_record table.next ∷ [])
@@ -82,12 +82,12 @@ all_some columns (r ∷ rs) cursor table = refl
 -- a base that leads to a table is read as it, whatever generation its header has
 pub base_read : (table : TableState) (records : List Record) (generation : ℕ) → IsFinished table records → 1 ≤ generation → generation ≤ generation_limit
     → length (side_bytes generation (schema_bytes table.columns ++ records_bytes records) (0 ∷ [])) ≤ side_limit → HasRoom table (base_at + length (schema_bytes table.columns ++ records_bytes records) + 1)
-    → IsSide table.columns (side_bytes generation (schema_bytes table.columns ++ records_bytes records) (0 ∷ [])) table generation (base_at + length (schema_bytes table.columns ++ records_bytes records) + 1)
+    → OwnSide table.columns (side_bytes generation (schema_bytes table.columns ++ records_bytes records) (0 ∷ [])) table generation (base_at + length (schema_bytes table.columns ++ records_bytes records) + 1)
 base_read table records generation f positive limit few room =
     let base = schema_bytes table.columns ++ records_bytes records in
     let is_base : IsBase Second table.columns base table = record { may = λ i d lt. tt; records = records; base_is = refl; stand = f.stand; replay_is = f.leads } in
     let len : base_at + length base + 0 + 1 ≡ base_at + length base + 1 = omega arith in
-    subst (λ (n : ℕ). IsSide table.columns (side_bytes generation base (0 ∷ [])) table generation n) len
+    subst (λ (n : ℕ). OwnSide table.columns (side_bytes generation base (0 ∷ [])) table generation n) len
     (base_side table.columns base table generation [] 0 [] is_base positive limit tt (omega arith) few (subst (λ (n : ℕ). HasRoom table n) (sym len) room))
 
 module _ {D : Type 0} (told : D → Told) (store : Stored D) (content : Content) (s : StandsFor told store content) (progress : Progress) (is : store.copy ≡ Some progress) (room : length_of store + 32 * store.rows ≤ side_limit) where
@@ -122,7 +122,7 @@ module _ {D : Type 0} (told : D → Told) (store : Stored D) (content : Content)
   pub no_longer : base_at + length base + 1 ≤ length_of store
   no_longer = omega (arith, base_length, copy.fits)
 
-  pub finished_side : IsSide table.columns (side_bytes (store.generation + 1) base (0 ∷ [])) table (store.generation + 1) (base_at + length base + 1)
+  pub finished_side : OwnSide table.columns (side_bytes (store.generation + 1) base (0 ∷ [])) table (store.generation + 1) (base_at + length base + 1)
   finished_side =
       let long : length (side_bytes (store.generation + 1) base (0 ∷ [])) ≡ base_at + length base + 1 = omega (arith, length-append base (0 ∷ [])) in
       let limit = copy.limit in
@@ -130,7 +130,7 @@ module _ {D : Type 0} (told : D → Told) (store : Stored D) (content : Content)
 
   -- with an open gate, what is read of the copy's side stands for the table
   pub finish_stands : (last header : List ℕ) → last ≡ rest ++ 0 ∷ [] → header ≡ header_bytes (store.generation + 1) (length base) → IsTrue (told store.disk).honest
-      → IsSide table.columns (opened (written (written (on (other store.side) (told store.disk).bytes) progress.at last) 1 header)) table (store.generation + 1) (base_at + length base + 1)
+      → OwnSide table.columns (opened (written (written (on (other store.side) (told store.disk).bytes) progress.at last) 1 header)) table (store.generation + 1) (base_at + length base + 1)
   finish_stands last header last_is header_is honest =
       let had = copy.bytes honest in
       let bytes : opened (written (written (on (other store.side) (told store.disk).bytes) progress.at last) 1 header) ≡ side_bytes (store.generation + 1) base (0 ∷ []) =
@@ -138,30 +138,30 @@ module _ {D : Type 0} (told : D → Told) (store : Stored D) (content : Content)
       ∙ finished_bytes had.gate (copy_bytes table.columns copy.written) last header progress.at copy.at (ap length header_is)
       ∙ ap (λ (l : List ℕ). 1 ∷ (header ++ l)) (ap (λ (l : List ℕ). copy_bytes table.columns copy.written ++ l) last_is ∙ sym (append_assoc (copy_bytes table.columns copy.written) rest (0 ∷ [])) ∙ ap (λ (l : List ℕ). l ++ 0 ∷ []) (sym base_is))
       ∙ ap (λ (l : List ℕ). 1 ∷ (l ++ (base ++ 0 ∷ []))) header_is in
-      subst (λ (l : List ℕ). IsSide table.columns l table (store.generation + 1) (base_at + length base + 1)) (sym bytes) finished_side
+      subst (λ (l : List ℕ). OwnSide table.columns l table (store.generation + 1) (base_at + length base + 1)) (sym bytes) finished_side
 
 -- a side that stands for a table is behind a greater generation
-side_behind : (columns : List Column) (bytes : List ℕ) (table : TableState) (generation end : ℕ) → IsSide columns bytes table generation end → IsBehind (generation + 1) bytes
+side_behind : (columns : List Column) (bytes : List ℕ) (table : TableState) (generation end : ℕ) → OwnSide columns bytes table generation end → IsBehind (generation + 1) bytes
 side_behind columns bytes table generation end side is_open = let told = side.stands.generation_is in (side.stands.reaches.begins.header.magic, omega (arith, told))
 
-back_again : (side : Side) (c : Sides) → on (other (other side)) c ≡ on side c
+pub back_again : (side : Side) (c : Sides) → on (other (other side)) c ≡ on side c
 back_again A c = refl
 back_again B c = refl
 
 -- the current side is behind the copy in each image
 pub current_behind : (side : Side) (told : Told) (table : TableState) (generation end : ℕ) → IsSettled told side table generation end → Within told.images (λ c. IsBehind (generation + 1) (on (other (other side)) c))
 current_behind side told table generation end s c left =
-    subst (IsBehind (generation + 1)) (sym (back_again side c)) (side_behind table.columns (on side c) table generation end (subst (λ (l : List ℕ). IsSide table.columns l table generation end) (sym (s.only c left)) s.stands))
+    subst (IsBehind (generation + 1)) (sym (back_again side c)) (side_behind table.columns (on side c) table generation end (subst (λ (l : List ℕ). OwnSide table.columns l table generation end) (sym (s.only c left)) s.stands))
 
 -- what a fill that succeeded says
 abbrev pub FillSays : Told → Told → Side → ℕ → List ℕ → List ℕ → Type 0
 FillSays old new side at last header =
     (columns : List Column) (table : TableState) (generation len : ℕ) → IsTrue old.honest → Within old.images (λ c. IsShut (on side c))
-    → IsSide columns (opened (written (written (on side old.bytes) at last) 1 header)) table generation len → Within old.images (λ c. IsBehind generation (on (other side) c))
+    → OwnSide columns (opened (written (written (on side old.bytes) at last) 1 header)) table generation len → Within old.images (λ c. IsBehind generation (on (other side) c))
     → IsFilled new side columns table generation len
 
 -- the old side, once the new one is open, counts for nothing
-spare_then : (side : Side) (generation : ℕ) (c : Sides) → Holds (other side) (generation + 1) c → HasMagic (on side c) → generation_of (on side c) ≡ generation → IsReady false (other (other side)) c
+pub spare_then : (side : Side) (generation : ℕ) (c : Sides) → Holds (other side) (generation + 1) c → HasMagic (on side c) → generation_of (on side c) ≡ generation → IsReady false (other (other side)) c
 spare_then A generation c holds magic told = inr (record { other_open = holds.0; magic = magic; lesser = omega (arith, told, holds.1) })
 spare_then B generation c holds magic told = inr (record { other_open = holds.0; magic = magic; lesser = omega (arith, told, holds.1) })
 
@@ -185,7 +185,7 @@ module _ {D : Type 0} (told : D → Told) (store : Stored D) (content : Content)
   pub the_filled : (mid : Told) → FillSays old mid (other store.side) progress.at last header → IsTrue old.honest → IsFilled mid (other store.side) the_table.columns the_table (store.generation + 1) end
   the_filled mid says h =
       let header_is : header ≡ header_bytes (store.generation + 1) (length (base told store content s progress is room)) = r.header_is ∙ ap (header_bytes (store.generation + 1)) (omega (arith, end_is)) in
-      let stands = subst (λ (n : ℕ). IsSide the_table.columns (opened (written (written (on (other store.side) old.bytes) progress.at last) 1 header)) the_table (store.generation + 1) n) (sym end_is) (finish_stands told store content s progress is room last header r.last_is header_is h) in
+      let stands = subst (λ (n : ℕ). OwnSide the_table.columns (opened (written (written (on (other store.side) old.bytes) progress.at last) 1 header)) the_table (store.generation + 1) n) (sym end_is) (finish_stands told store content s progress is room last header r.last_is header_is h) in
       says the_table.columns the_table (store.generation + 1) end h (copy_shut told store content s progress is h) stands (current_behind store.side old content.committed store.generation store.end (s.settled h whole))
 
   pub columns_are : the_table.columns ≡ content.committed.columns
@@ -197,19 +197,19 @@ module _ {D : Type 0} (told : D → Told) (store : Stored D) (content : Content)
 
   -- and of a switch behind it
   pub finish_moments : (mid new : Told) → IsTrue old.honest → IsTrue mid.honest → (IsTrue mid.honest → (t : ℕ) (c : Sides) → t ≤ mid.moment → mid.images c → mid.since t c) → LeavesOnly old mid (ReadsAs content.committed.columns old.images)
-      → LeavesOnly mid new (λ c. ReadsAs content.committed.columns mid.images c ⊎ Reads content.committed.columns c the_table (store.generation + 1)) → LeavesOnly old new (IsPrefixOrNew content store.generation)
+      → LeavesOnly mid new (λ c. ReadsAs content.committed.columns mid.images c ⊎ ReadsOwn content.committed.columns c the_table (store.generation + 1)) → LeavesOnly old new (IsPrefixOrNew content store.generation)
   finish_moments mid new h h1 counts first second =
       let columns = content.committed.columns in
       let now = now_reads old mid (ReadsAs columns old.images) counts h1 first in
-      weaker old new (λ c. ReadsAs columns old.images c ⊎ (ReadsAs columns mid.images c ⊎ Reads columns c the_table (store.generation + 1))) (IsPrefixOrNew content store.generation)
-      (then_only old mid new (ReadsAs columns old.images) (λ c. ReadsAs columns mid.images c ⊎ Reads columns c the_table (store.generation + 1)) first second)
+      weaker old new (λ c. ReadsAs columns old.images c ⊎ (ReadsAs columns mid.images c ⊎ ReadsOwn columns c the_table (store.generation + 1))) (IsPrefixOrNew content store.generation)
+      (then_only old mid new (ReadsAs columns old.images) (λ c. ReadsAs columns mid.images c ⊎ ReadsOwn columns c the_table (store.generation + 1)) first second)
       (λ c either. ⊎_elim (λ was. inl (prefix_as content store.generation old.images (s.images h) c was)) (λ later. ⊎_elim (λ like. inl (prefix_as content store.generation old.images (s.images h) c (reads_as_then columns old.images mid.images now c like))) (λ made. inr made) later) either)
 
   -- the store goes on with the new side
   pub settled_finished : (mid new : Told) → IsFilled mid (other store.side) the_table.columns the_table (store.generation + 1) end → on (other store.side) new.bytes ≡ opened (on (other store.side) mid.bytes) → Within new.images (λ c. on (other store.side) c ≡ on (other store.side) new.bytes)
       → OtherStays (other store.side) mid new → IsSettled new (other store.side) the_table (store.generation + 1) end
   settled_finished mid new f bytes only stays = record {
-    stands = subst (λ (l : List ℕ). IsSide the_table.columns l the_table (store.generation + 1) end) (sym bytes) f.stands;
+    stands = subst (λ (l : List ℕ). OwnSide the_table.columns l the_table (store.generation + 1) end) (sym bytes) f.stands;
     only = only;
     behind = λ c left. let from = stays.each c left in subst (IsBehind (store.generation + 1)) (sym from.2) (f.behind from.0 from.1);
   }
@@ -218,7 +218,7 @@ module _ {D : Type 0} (told : D → Told) (store : Stored D) (content : Content)
   finished_ready new h settled stays c left =
       let t = s.settled h whole in
       let from = current_stays store.side old new stays c left in
-      let stands = subst (λ (l : List ℕ). IsSide content.committed.columns l content.committed store.generation store.end) (sym (from.2 ∙ t.only from.0 from.1)) t.stands in
+      let stands = subst (λ (l : List ℕ). OwnSide content.committed.columns l content.committed store.generation store.end) (sym (from.2 ∙ t.only from.0 from.1)) t.stands in
       spare_then store.side store.generation c (settled_holds new (other store.side) the_table (store.generation + 1) end settled c left) stands.stands.reaches.begins.header.magic (sym stands.stands.generation_is)
 
   pub stands_finished : (new : D) (records ends : List ℕ) → (told new).honest ≡ old.honest → records ≡ [] → (IsTrue old.honest → IsSettled (told new) (other store.side) the_table (store.generation + 1) end) → (IsTrue old.honest → OtherStays (other store.side) old (told new))

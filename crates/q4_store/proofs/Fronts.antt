@@ -12,7 +12,7 @@ use Rattle.q4_record.specs.declared.replay.Stage.TheVariants as stage
 use Rattle.q4_record.specs.Record.{Record}
 use Rattle.q4_record.specs.Replay.{replayed, replays, at_batches, MayCome, stage_after, AllStand, Stands}
 use Rattle.q4_store.proofs.Idle.{has_magic}
-use Rattle.q4_record.specs.Side.{side_limit, generation_limit, base_at, gate_of, magic_of, HasMagic, format_of, told_at, generation_of, base_length_of, base_of, behind_base, batch_bytes, batches_bytes, BatchesStand, after_batches, IsBase, HasRoom, Side as IsSide}
+use Rattle.q4_record.specs.Side.{side_limit, generation_limit, base_at, gate_of, magic_of, HasMagic, format_of, told_at, generation_of, base_length_of, base_of, behind_base, batch_bytes, batches_bytes, BatchesStand, after_batches, IsBase, HasRoom, OwnSide}
 
 -- all parts of a side up to its closing gate
 pub record IsFront (columns : List Column) (front : List ℕ) (table : TableState) (generation : ℕ) : Type 0 where
@@ -70,7 +70,7 @@ behind_length columns front table generation f = omega (arith, ap length f.behin
 
 -- with a closed gate behind it, and any bytes, it is a side
 pub side_of : (columns : List Column) (front : List ℕ) (table : TableState) (generation gate : ℕ) (tail : List ℕ) → IsFront columns front table generation → gate ≢ 1 → length (front ++ gate ∷ tail) ≤ side_limit → HasRoom table (length front + 1)
-    → IsSide columns (front ++ gate ∷ tail) table generation (length front + 1)
+    → OwnSide columns (front ++ gate ∷ tail) table generation (length front + 1)
 side_of columns front table generation gate tail f closed few room =
     let more = gate ∷ tail in
     let within = f.long in
@@ -168,7 +168,7 @@ pub record Parted (columns : List Column) (bytes : List ℕ) (table : TableState
   pub end : len ≡ length front + 1
   pub is_front : IsFront columns front table generation
 
-pub parted : (columns : List Column) (bytes : List ℕ) (table : TableState) (generation len : ℕ) → IsSide columns bytes table generation len → Parted columns bytes table generation len
+pub parted : (columns : List Column) (bytes : List ℕ) (table : TableState) (generation len : ℕ) → OwnSide columns bytes table generation len → Parted columns bytes table generation len
 parted columns bytes table generation len side =
     let w = side.stands in
     let r = w.reaches in

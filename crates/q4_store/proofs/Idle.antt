@@ -4,7 +4,7 @@ use Rattle.std.specs.Int.{w64, from_be_bytes}
 use Rattle.std.proofs.lemmas.List.{drop-drop}
 use Rattle.q4_value.specs.declared.column.Column.{Column}
 use Rattle.q4_table.specs.TableState.{TableState}
-use Rattle.q4_record.specs.Side.{gate_of, magic_of, HasMagic, generation_of, told_at, IsOpen, Side as IsSide}
+use Rattle.q4_record.specs.Side.{gate_of, magic_of, HasMagic, generation_of, told_at, IsOpen, IsNarrow, Side as IsSide}
 use Rattle.q4_disk.specs.declared.disk.Side.{Side}
 use Rattle.q4_disk.specs.declared.disk.Side.TheVariants.{A, B}
 use Rattle.q4_disk.specs.Told.{Sides, Told}
@@ -12,32 +12,42 @@ use Rattle.q4_disk.specs.Images.{on, other, put, written, Torn, Cut, Sided, With
 use Rattle.q4_disk.specs.Calls.{Wrote, DidCut, Synced}
 use Rattle.q4_disk.specs.inner.Laws.{on_put}
 use Rattle.q4_disk.proofs.Moments.{Along, began, wrote, did_cut, synced, synced_ok}
-use Rattle.q4_store.specs.Reading.{IsCurrent, ReadsNew, Reads, Alike, ReadsAs}
+use Rattle.q4_store.specs.Reading.{IsCurrent, ReadsNew, Reads, IsOutgrown, Alike, ReadsAs}
 use Rattle.q4_store.specs.Parts.{IsShut, IsIdle, IsSpare, IsReady}
 
-module _ (columns : List Column) (table : TableState) (generation : ℕ) where
-  -- an idle side is not the one that counts
-  idle_counts_not : (side : Side) (d : Sides) → IsIdle side d → IsCurrent side d → ⊥
-  idle_counts_not side d idle is =
-      let outdone = idle is.is_open in
-      let behind = is.behind outdone.other_open in
-      omega (arith, outdone.lesser, behind.1)
+-- an idle side is not the one that counts
+idle_counts_not : (side : Side) (d : Sides) → IsIdle side d → IsCurrent side d → ⊥
+idle_counts_not side d idle is =
+    let outdone = idle is.is_open in
+    let behind = is.behind outdone.other_open in
+    omega (arith, outdone.lesser, behind.1)
 
+-- the one that counts stays where an idle one changes
+current_still : (side s : Side) (d c : Sides) → on (other side) c ≡ on (other side) d → IsIdle side d → IsIdle side c → IsCurrent s d → IsCurrent s c × (on s c ≡ on s d)
+current_still A A d c same was is current = absurd (idle_counts_not A d was current)
+current_still B B d c same was is current = absurd (idle_counts_not B d was current)
+current_still A B d c same was is current = (record { is_open = subst IsOpen (sym same) current.is_open; behind = λ open_here. let outdone = is open_here in (outdone.magic, outdone.lesser) }, same)
+current_still B A d c same was is current = (record { is_open = subst IsOpen (sym same) current.is_open; behind = λ open_here. let outdone = is open_here in (outdone.magic, outdone.lesser) }, same)
+
+-- so does whether it is of a narrower schema
+outgrown_still : (columns : List Column) (side : Side) (d c : Sides) → on (other side) c ≡ on (other side) d → IsIdle side d → IsIdle side c → IsOutgrown columns d → IsOutgrown columns c
+outgrown_still columns side d c same was is outgrown =
+    let still = current_still side outgrown.side d c same was is outgrown.current in
+    record {
+      side = outgrown.side;
+      current = still.0;
+      narrow = subst (IsNarrow columns) (sym still.1) outgrown.narrow;
+      table = outgrown.table;
+      generation = outgrown.generation;
+      len = outgrown.len;
+      stands = subst (λ (bytes : List ℕ). IsSide columns bytes outgrown.table outgrown.generation outgrown.len) (sym still.1) outgrown.stands;
+    }
+
+module _ (columns : List Column) (table : TableState) (generation : ℕ) where
   reads_on : (side s : Side) (d c : Sides) (len : ℕ) → on (other side) c ≡ on (other side) d → IsIdle side d → IsIdle side c → IsCurrent s d → IsSide columns (on s d) table generation len → Reads columns c table generation
-  reads_on A A d c len same was is current stands = absurd (idle_counts_not A d was current)
-  reads_on B B d c len same was is current stands = absurd (idle_counts_not B d was current)
-  reads_on A B d c len same was is current stands = inl (record {
-    side = B;
-    len = len;
-    current = record { is_open = subst IsOpen (sym same) current.is_open; behind = λ open_here. let outdone = is open_here in (outdone.magic, outdone.lesser) };
-    stands = subst (λ (bytes : List ℕ). IsSide columns bytes table generation len) (sym same) stands;
-  })
-  reads_on B A d c len same was is current stands = inl (record {
-    side = A;
-    len = len;
-    current = record { is_open = subst IsOpen (sym same) current.is_open; behind = λ open_here. let outdone = is open_here in (outdone.magic, outdone.lesser) };
-    stands = subst (λ (bytes : List ℕ). IsSide columns bytes table generation len) (sym same) stands;
-  })
+  reads_on side s d c len same was is current stands =
+      let still = current_still side s d c same was is current in
+      inl (record { side = s; len = len; current = still.0; stands = subst (λ (bytes : List ℕ). IsSide columns bytes table generation len) (sym still.1) stands })
 
   still_new : (side : Side) (d c : Sides) → on (other side) c ≡ on (other side) d → IsIdle side c → ReadsNew columns d table generation → ReadsNew columns c table generation
   still_new A d c same is new = record {
@@ -62,6 +72,7 @@ pub idle_alike : (columns : List Column) (side : Side) (d c : Sides) → on (oth
 idle_alike columns side d c same was is = record {
   forth = λ table generation. reads_still columns table generation side d c same was is;
   back = λ table generation. reads_still columns table generation side c d (sym same) is was;
+  outgrown = (outgrown_still columns side d c same was is, outgrown_still columns side c d (sym same) is was);
 }
 
 pub shut_idle : (side : Side) (c : Sides) → IsShut (on side c) → IsIdle side c

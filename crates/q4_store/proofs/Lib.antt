@@ -11,6 +11,8 @@ pub mod FirstBytes
 pub mod Quiet
 pub mod Drafts
 pub mod Finding
+pub mod Rewriting
+pub mod NewTables
 pub mod Opened
 pub mod Apart
 pub mod Lengths

@@ -9,12 +9,14 @@ use Rattle.q4_record.specs.declared.head.Head.TheVariants.{Insert, End, Mark, Ne
 use Rattle.q4_record.specs.declared.replay.Replay.{Replay}
 use Rattle.q4_record.specs.Record.{Record, records_bytes}
 use Rattle.q4_record.specs.Replay.{table_after, replayed, replays, at_batches, AllStand}
-use Rattle.q4_record.specs.Side.{side_limit, batch_bytes, generation_of, IsOpen, HasRoom, Side as IsSide}
+use Rattle.q4_record.specs.Side.{side_limit, batch_bytes, generation_of, IsOpen, IsNarrow, HasRoom, OwnSide}
+use Rattle.q4_record.proofs.WideSides.{own_is_side, own_not_narrow}
 use Rattle.q4_disk.specs.declared.disk.Side.{Side}
+use Rattle.q4_disk.specs.declared.disk.Side.TheVariants.{A, B}
 use Rattle.q4_disk.specs.Told.{Sides, Told}
 use Rattle.q4_disk.specs.Images.{on, other, Within}
 use Rattle.q4_disk.specs.Time.{OtherStays}
-use Rattle.q4_store.specs.Reading.{IsBehind, Reads}
+use Rattle.q4_store.specs.Reading.{IsBehind, IsCurrent, IsOutgrown, ReadsOwn}
 use Rattle.q4_store.specs.Commit.{sealed, EndsBehind, IsClosedBehind, IsOpenBehind, MayHaveBatch, grown}
 use Rattle.q4_store.specs.Content.{Content, table_of, IsPrefix, IsAllOrNone}
 use Rattle.q4_store.specs.Store.{IsSettled}
@@ -31,20 +33,32 @@ pub columns_stay : (replay : Replay) (rs : List Record) → (replays replay rs).
 columns_stay replay [] = refl
 columns_stay replay (r ∷ rs) = columns_stay (replayed replay r) rs ∙ columns_after replay.table r.head r.row
 
+-- one side counts at most
+pub current_same : (s t : Side) (c : Sides) → IsCurrent s c → IsCurrent t c → s ≡ t
+current_same A A c is also = refl
+current_same B B c is also = refl
+current_same A B c is also = let up = is.behind also.is_open in let down = also.behind is.is_open in absurd (omega (arith, up.1, down.1))
+current_same B A c is also = let up = is.behind also.is_open in let down = also.behind is.is_open in absurd (omega (arith, up.1, down.1))
+
+-- where it is of these very columns opening rewrites nothing
+pub own_stays : (columns : List Column) (side : Side) (c : Sides) → IsCurrent side c → (IsNarrow columns (on side c) → ⊥) → IsOutgrown columns c → ⊥
+own_stays columns side c current own outgrown =
+    own (subst (λ (s : Side). IsNarrow columns (on s c)) (current_same outgrown.side side c outgrown.current current) outgrown.narrow)
+
 -- a side that stands for the table, with the other one behind it, is what two sides read as
-pub reads_current : (columns : List Column) (side : Side) (c : Sides) (table : TableState) (generation len : ℕ) → IsSide columns (on side c) table generation len → IsBehind generation (on (other side) c) → Reads columns c table generation
-reads_current columns side c table generation len stands behind = inl (record {
-  side = side;
-  len = len;
-  current = record { is_open = stands.stands.reaches.begins.is_open; behind = subst (λ (n : ℕ). IsBehind n (on (other side) c)) stands.stands.generation_is behind };
-  stands = stands;
-})
+pub reads_current : (columns : List Column) (side : Side) (c : Sides) (table : TableState) (generation len : ℕ) → OwnSide columns (on side c) table generation len → IsBehind generation (on (other side) c) → ReadsOwn columns c table generation
+reads_current columns side c table generation len stands behind =
+    let current : IsCurrent side c = record { is_open = stands.stands.reaches.begins.is_open; behind = subst (λ (n : ℕ). IsBehind n (on (other side) c)) stands.stands.generation_is behind } in
+    record {
+      reads = inl (record { side = side; len = len; current = current; stands = own_is_side columns (on side c) table generation len stands });
+      own = own_stays columns side c current (own_not_narrow columns (on side c) table generation len stands);
+    }
 
 -- the side is open, and has this generation
 abbrev pub Holds : Side → ℕ → Sides → Type 0
 Holds side generation c = IsOpen (on side c) × (generation_of (on side c) ≡ generation)
 
-pub side_holds : (columns : List Column) (side : Side) (c : Sides) (table : TableState) (generation len : ℕ) → IsSide columns (on side c) table generation len → Holds side generation c
+pub side_holds : (columns : List Column) (side : Side) (c : Sides) (table : TableState) (generation len : ℕ) → OwnSide columns (on side c) table generation len → Holds side generation c
 side_holds columns side c table generation len stands = (stands.stands.reaches.begins.is_open, sym stands.stands.generation_is)
 
 -- a batch, as it is written, behind an open gate
@@ -77,14 +91,14 @@ module _ (told : Told) (side : Side) (content : Content) (generation end : ℕ) 
   batch_length : length (batch_bytes content.pending) ≡ 5 + length records
   batch_length = omega (arith, length-append (1 ∷ to_be_bytes w32 (length records)) records)
 
-  stands_closed : (bytes : List ℕ) → IsClosedBehind front (grown told side end (sealed records)) bytes → IsSide columns bytes content.committed generation end
+  stands_closed : (bytes : List ℕ) → IsClosedBehind front (grown told side end (sealed records)) bytes → OwnSide columns bytes content.committed generation end
   stands_closed bytes b =
       let size : length (front ++ b.gate ∷ b.tail) ≤ side_limit = omega (arith, few, b.few, ap length b.is) in
       let room_for : HasRoom content.committed (length front + 1) = subst (HasRoom content.committed) p.end s.stands.room in
       let stands = side_of columns front content.committed generation b.gate b.tail p.is_front b.closed size room_for in
-      subst (λ (l : List ℕ). IsSide columns l content.committed generation end) (sym b.is) (subst (λ (n : ℕ). IsSide columns (front ++ b.gate ∷ b.tail) content.committed generation n) (sym p.end) stands)
+      subst (λ (l : List ℕ). OwnSide columns l content.committed generation end) (sym b.is) (subst (λ (n : ℕ). OwnSide columns (front ++ b.gate ∷ b.tail) content.committed generation n) (sym p.end) stands)
 
-  stands_open : (bytes : List ℕ) → IsOpenBehind front (sealed records) (grown told side end (sealed records)) bytes → IsSide columns bytes (table_of content) generation (end + (5 + length records))
+  stands_open : (bytes : List ℕ) → IsOpenBehind front (sealed records) (grown told side end (sealed records)) bytes → OwnSide columns bytes (table_of content) generation (end + (5 + length records))
   stands_open bytes b =
       let more = front ++ batch_bytes content.pending in
       let is : bytes ≡ more ++ 0 ∷ b.tail = b.is ∙ batch_is front records b.tail in
@@ -93,7 +107,7 @@ module _ (told : Told) (side : Side) (content : Content) (generation end : ℕ) 
       let end_is : end + (5 + length records) ≡ length more + 1 = omega (arith, p.end, more_length) in
       let room_for : HasRoom (table_of content) (length more + 1) = omega (arith, room, end_is) in
       let stands = side_of columns more (table_of content) generation 0 b.tail (more_front columns front content.committed generation content.pending p.is_front all) (omega arith) size room_for in
-      subst (λ (l : List ℕ). IsSide columns l (table_of content) generation (end + (5 + length records))) (sym is) (subst (λ (n : ℕ). IsSide columns (more ++ 0 ∷ b.tail) (table_of content) generation n) (sym end_is) stands)
+      subst (λ (l : List ℕ). OwnSide columns l (table_of content) generation (end + (5 + length records))) (sym is) (subst (λ (n : ℕ). OwnSide columns (more ++ 0 ∷ b.tail) (table_of content) generation n) (sym end_is) stands)
 
   pub may_read : (c : Sides) → MayHaveBatch told.images side front (sealed records) (grown told side end (sealed records)) c → IsPrefix content generation c
   may_read c m = reads_by m.here
@@ -106,7 +120,7 @@ module _ (told : Told) (side : Side) (content : Content) (generation end : ℕ) 
       reads_by (inr is_open) = record {
         count = length content.pending;
         within = omega arith;
-        reads = subst (λ (rs : List Record). Reads columns c (replays (at_batches content.committed) rs).table generation) (sym (take_all (length content.pending) content.pending (omega arith)))
+        reads = subst (λ (rs : List Record). ReadsOwn columns c (replays (at_batches content.committed) rs).table generation) (sym (take_all (length content.pending) content.pending (omega arith)))
             (reads_current columns side c (table_of content) generation (end + (5 + length records)) (stands_open (on side c) is_open) behind);
       }
 
@@ -133,7 +147,7 @@ module _ (told : Told) (side : Side) (content : Content) (generation end : ℕ) 
   pub settled_then : (new : Told) → IsOpenBehind front (sealed records) (grown told side end (sealed records)) (on side new.bytes) → Within new.images (λ c. on side c ≡ on side new.bytes) → OtherStays side told new
       → IsSettled new side (table_of content) generation (end + (5 + length records))
   settled_then new is_open only stays = record {
-    stands = subst (λ (cs : List Column). IsSide cs (on side new.bytes) (table_of content) generation (end + (5 + length records))) (sym (columns_stay (at_batches content.committed) content.pending)) (stands_open (on side new.bytes) is_open);
+    stands = subst (λ (cs : List Column). OwnSide cs (on side new.bytes) (table_of content) generation (end + (5 + length records))) (sym (columns_stay (at_batches content.committed) content.pending)) (stands_open (on side new.bytes) is_open);
     only = only;
     behind = λ c left. let from = stays.each c left in subst (IsBehind generation) (sym from.2) (s.behind from.0 from.1);
   }

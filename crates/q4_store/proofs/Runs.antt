@@ -1,22 +1,24 @@
 -- Runs of device calls, one after another.
 use Rattle.std.proofs.Common.{◌≡◌, ◌≢◌, ◌⊎◌, ◌↔◌, true, Bool, IsTrue, IsErr, ℕ, List, [], ◌∷◌, ◌++◌, Result, Ok, Err, refl, sym, ◌∙◌, ap, subst, inl, inr, append_assoc}
 use Rattle.std.proofs.lemmas.List.{append-nil}
-use Rattle.std.specs.Result.{IfErr, OnOk}
+use Rattle.std.specs.Result.{IfOk, IfErr, OnOk}
 use Rattle.q4_value.specs.declared.column.Column.{Column}
-use Rattle.q4_record.specs.Side.{IsOpen}
+use Rattle.q4_table.specs.TableState.{new_table}
+use Rattle.q4_record.specs.Side.{IsOpen, IsNarrow}
 use Rattle.q4_disk.specs.declared.disk.DiskFailed.{DiskFailed}
 use Rattle.q4_disk.specs.declared.disk.Side.{Side}
+use Rattle.q4_disk.specs.declared.disk.Side.TheVariants.{A}
 use Rattle.q4_disk.specs.declared.tally.DeviceCall.{DeviceCall as Last}
 use Rattle.q4_disk.specs.Told.{Sides, Told}
-use Rattle.q4_disk.specs.Images.{size}
+use Rattle.q4_disk.specs.Images.{on, other, size}
 use Rattle.q4_disk.specs.Calls.{IsCall}
 use Rattle.q4_store.specs.declared.fault.OpenFault.{OpenFault}
 use Rattle.q4_store.specs.declared.fault.OpenFault.TheVariants as fault
 use Rattle.q4_store.specs.declared.head.Choice.TheVariants as choice
-use Rattle.q4_store.specs.Reading.{IsCurrent}
+use Rattle.q4_store.specs.Reading.{IsCurrent, IsOutgrown, Reads}
 use Rattle.q4_store.specs.Parts.{IsShut}
 use Rattle.q4_store.specs.Looking.{IsChoice}
-use Rattle.q4_store.specs.Device.{DeviceCall, AllMade, BrokeOff, Makes, StopsEarly, Stops, load_calls, Size, Read, ReadsCurrent, WritesNew, IsBehindLook, HasOpened, HasStopped, look_calls, create_calls}
+use Rattle.q4_store.specs.Device.{DeviceCall, AllMade, BrokeOff, Makes, StopsEarly, Stops, load_calls, write_calls, Size, Read, ReadsCurrent, Rewrites, WritesNew, IsBehindLook, MayBehindLook, MayReadBehindLook, StopsBehindLook, HasOpened, HasStopped, look_calls}
 
 module _ {D : Type 0} (told : D → Told) where
   -- a run that fails broke off
@@ -81,6 +83,11 @@ module _ {D : Type 0} (told : D → Told) where
   all_called calls (Ok x) a b made other = tt
   all_called calls (Err why) a b made other = subst (λ (l : List DeviceCall). Stops told l why a b) (append-nil calls) (stops_early why calls [] a b other made)
 
+  pub load_made : {T E : Type 0} (side : Side) (n total : ℕ) (honest : Bool) (result : Result T E) (a b c : D) → (IsTrue honest → n ≡ total) → AllMade told (Size side ∷ []) a b → IfOk result (λ x. AllMade told (Read side 0 n ∷ []) b c)
+      → IfOk result (λ x. (k : ℕ) × (IsTrue honest → k ≡ total) × AllMade told (load_calls side k) a c)
+  load_made side n total honest (Ok x) a b c whole sized made = (n, whole, made_then (Size side ∷ []) (Read side 0 n ∷ []) a b c sized made)
+  load_made side n total honest (Err why) a b c whole sized made = tt
+
   -- a side's size was asked for, and it was read
   pub load_stops : {T : Type 0} (side : Side) (n total : ℕ) (honest : Bool) (result : Result T OpenFault) (a b c : D) → (IsTrue honest → n ≡ total) → AllMade told (Size side ∷ []) a b → IfErr result (λ why. Stops told (Read side 0 n ∷ []) why b c)
       → IfErr result (λ why. (k : ℕ) × (IsTrue honest → k ≡ total) × Stops told (load_calls side k) why a c)
@@ -121,39 +128,76 @@ new_still columns old mid calls same bytes writes = record {
   known_is = λ h. subst (λ (s : Sides). (writes.known ≡ true) ↔ IsShut s.a) (bytes h) (writes.known_is (same ∙ h));
 }
 
+rewrites_still : (columns : List Column) (old mid : Told) (calls : List DeviceCall) → mid.honest ≡ old.honest → (IsTrue old.honest → mid.bytes ≡ old.bytes) → Rewrites columns mid calls → Rewrites columns old calls
+rewrites_still columns old mid calls same bytes rewrites = record {
+  side = rewrites.side;
+  length = rewrites.length;
+  known = rewrites.known;
+  table = rewrites.table;
+  generation = rewrites.generation;
+  are = rewrites.are;
+  current = λ h. subst (IsCurrent rewrites.side) (bytes h) (rewrites.current (same ∙ h));
+  whole = λ h. rewrites.whole (same ∙ h) ∙ ap (size rewrites.side) (bytes h);
+  narrow = λ h. subst (λ (s : Sides). IsNarrow columns (on rewrites.side s)) (bytes h) (rewrites.narrow (same ∙ h));
+  reads = λ h. subst (λ (s : Sides). Reads columns s rewrites.table rewrites.generation) (bytes h) (rewrites.reads (same ∙ h));
+  known_is = λ h. subst (λ (s : Sides). (rewrites.known ≡ true) ↔ IsShut (on (other rewrites.side) s)) (bytes h) (rewrites.known_is (same ∙ h));
+}
+
 pub behind_still : (columns : List Column) (old mid : Told) (calls : List DeviceCall) → mid.honest ≡ old.honest → (IsTrue old.honest → mid.bytes ≡ old.bytes) → IsBehindLook columns mid calls → IsBehindLook columns old calls
-behind_still columns old mid calls same bytes (inl reads) = inl (current_still old mid calls same bytes reads)
-behind_still columns old mid calls same bytes (inr writes) = inr (new_still columns old mid calls same bytes writes)
+behind_still columns old mid calls same bytes (inl reads) = inl (current_still old mid calls same bytes reads.0, λ h outgrown. reads.1 (same ∙ h) (subst (IsOutgrown columns) (sym (bytes h)) outgrown))
+behind_still columns old mid calls same bytes (inr (inl rewrites)) = inr (inl (rewrites_still columns old mid calls same bytes rewrites))
+behind_still columns old mid calls same bytes (inr (inr writes)) = inr (inr (new_still columns old mid calls same bytes writes))
+
+may_still : (columns : List Column) (old mid : Told) (calls : List DeviceCall) → mid.honest ≡ old.honest → (IsTrue old.honest → mid.bytes ≡ old.bytes) → MayBehindLook columns mid calls → MayBehindLook columns old calls
+may_still columns old mid calls same bytes (inl reads) = inl (current_still old mid calls same bytes reads)
+may_still columns old mid calls same bytes (inr (inl rewrites)) = inr (inl (rewrites_still columns old mid calls same bytes rewrites))
+may_still columns old mid calls same bytes (inr (inr (inl writes))) = inr (inr (inl (new_still columns old mid calls same bytes writes)))
+may_still columns old mid calls same bytes (inr (inr (inr none))) = inr (inr (inr none))
+
+may_read_still : (old mid : Told) (calls : List DeviceCall) → mid.honest ≡ old.honest → (IsTrue old.honest → mid.bytes ≡ old.bytes) → MayReadBehindLook mid calls → MayReadBehindLook old calls
+may_read_still old mid calls same bytes (inl reads) = inl (current_still old mid calls same bytes reads)
+may_read_still old mid calls same bytes (inr none) = inr none
 
 pub current_read : (told : Told) (side : Side) (known : Bool) (n : ℕ) → (IsTrue told.honest → IsChoice told.bytes (choice.Current side known)) → (IsTrue told.honest → n ≡ size side told.bytes) → ReadsCurrent told (load_calls side n)
 current_read told side known n chosen whole = record { side = side; length = n; are = refl; current = λ h. (chosen h).0; whole = whole }
 
-pub new_written : (columns : List Column) (told : Told) (known other : Bool) → (IsTrue told.honest → IsChoice told.bytes (choice.Neither known other)) → WritesNew columns told (create_calls columns known)
+pub new_written : (columns : List Column) (told : Told) (known other : Bool) → (IsTrue told.honest → IsChoice told.bytes (choice.Neither known other)) → WritesNew columns told (write_calls A known (new_table columns) 1)
 new_written columns told known other chosen = record { known = known; are = refl; closed_a = λ h. (chosen h).0; closed_b = λ h. (chosen h).1; known_is = λ h. (chosen h).3 }
 
 -- opening goes on behind its look
 module _ {D : Type 0} (told : D → Told) (columns : List Column) where
-  pub reads_ok : {T E : Type 0} (result : Result T E) (a b : D) → OnOk result ((calls : List DeviceCall) × ReadsCurrent (told a) calls × AllMade told calls a b) → OnOk result ((calls : List DeviceCall) × IsBehindLook columns (told a) calls × AllMade told calls a b)
-  reads_ok (Ok x) a b made = (made.0, inl made.1, made.2)
-  reads_ok (Err why) a b made = tt
-
   pub writes_ok : {T E : Type 0} (result : Result T E) (a b : D) → OnOk result ((calls : List DeviceCall) × WritesNew columns (told a) calls × AllMade told calls a b) → OnOk result ((calls : List DeviceCall) × IsBehindLook columns (told a) calls × AllMade told calls a b)
-  writes_ok (Ok x) a b made = (made.0, inr made.1, made.2)
+  writes_ok (Ok x) a b made = (made.0, inr (inr made.1), made.2)
   writes_ok (Err why) a b made = tt
 
-  pub reads_err : {T : Type 0} (result : Result T OpenFault) (a b : D) → IfErr result (λ why. (calls : List DeviceCall) × ReadsCurrent (told a) calls × Stops told calls why a b)
-      → IfErr result (λ why. (calls : List DeviceCall) × (IsBehindLook columns (told a) calls ⊎ (calls ≡ [])) × Stops told calls why a b)
-  reads_err (Ok x) a b stops = tt
-  reads_err (Err why) a b stops = (stops.0, inl (inl stops.1), stops.2)
+  -- refused for another reason than the disk, behind calls that only read
+  pub stops_reading : (why : OpenFault) (calls : List DeviceCall) (a b : D) → why ≢ fault.Disk → MayReadBehindLook (told a) calls → StopsEarly told calls a b → StopsBehindLook columns told why a b
+  stops_reading why calls a b other reads early = record { failed = λ disk. absurd (other disk); refused = λ any. (calls, reads, early) }
 
-  pub writes_err : {T : Type 0} (result : Result T OpenFault) (a b : D) → IfErr result (λ why. (calls : List DeviceCall) × WritesNew columns (told a) calls × Stops told calls why a b)
-      → IfErr result (λ why. (calls : List DeviceCall) × (IsBehindLook columns (told a) calls ⊎ (calls ≡ [])) × Stops told calls why a b)
-  writes_err (Ok x) a b stops = tt
-  writes_err (Err why) a b stops = (stops.0, inl (inr stops.1), stops.2)
+  -- it broke off where the disk failed
+  pub stops_broken : (calls : List DeviceCall) (a b : D) → MayBehindLook columns (told a) calls → BrokeOff told calls a b → StopsBehindLook columns told fault.Disk a b
+  stops_broken calls a b may broke = record { failed = λ disk. (calls, may, broke); refused = λ other. absurd (other refl) }
 
-  still_stops : (old mid : Told) (calls : List DeviceCall) → mid.honest ≡ old.honest → (IsTrue old.honest → mid.bytes ≡ old.bytes) → IsBehindLook columns mid calls ⊎ (calls ≡ []) → IsBehindLook columns old calls ⊎ (calls ≡ [])
-  still_stops old mid calls same bytes (inl behind) = inl (behind_still columns old mid calls same bytes behind)
-  still_stops old mid calls same bytes (inr none) = inr none
+  -- the side that counts was to be read
+  pub stops_loading : (why : OpenFault) (calls : List DeviceCall) (a b : D) → ReadsCurrent (told a) calls → Stops told calls why a b → StopsBehindLook columns told why a b
+  stops_loading why calls a b reads stops = record {
+    failed = λ disk. (calls, inl reads, subst (λ w. Stops told calls w a b) disk stops);
+    refused = λ other. (calls, inl reads, is_early told calls why a b other stops);
+  }
+
+  -- a table is written behind what was read of it
+  pub rewrites_ok : {T E : Type 0} (result : Result T E) (read write : List DeviceCall) (a b c : D) → Rewrites columns (told a) (read ++ write) → AllMade told read a b → OnOk result (AllMade told write b c)
+      → OnOk result ((calls : List DeviceCall) × IsBehindLook columns (told a) calls × AllMade told calls a c)
+  rewrites_ok (Ok x) read write a b c rewrites before made = (read ++ write, inr (inl rewrites), made_then told read write a b c before made)
+  rewrites_ok (Err why) read write a b c rewrites before made = tt
+
+  pub rewrites_err : {T : Type 0} (result : Result T OpenFault) (read write : List DeviceCall) (a b c : D) → ReadsCurrent (told a) read → Rewrites columns (told a) (read ++ write) → AllMade told read a b
+      → IfErr result (λ why. why ≡ fault.Disk → BrokeOff told write b c) → IfErr result (λ why. why ≢ fault.Disk → c ≡ b) → IfErr result (λ why. StopsBehindLook columns told why a c)
+  rewrites_err (Ok x) read write a b c reads rewrites before broke none = tt
+  rewrites_err (Err why) read write a b c reads rewrites before broke none = record {
+    failed = λ disk. (read ++ write, inr (inl rewrites), broke_then told read write a b c before (broke disk));
+    refused = λ other. (read, inl reads, record { front = read; rest = []; parts = sym (append-nil read); made = subst (λ (d : D). AllMade told read a d) (sym (none other)) before });
+  }
 
   pub opened_ok : {T E : Type 0} (result : Result T E) (a b c : D) → AllMade told look_calls a b → (told b).honest ≡ (told a).honest → (IsTrue (told a).honest → (told b).bytes ≡ (told a).bytes)
       → OnOk result ((calls : List DeviceCall) × IsBehindLook columns (told b) calls × AllMade told calls b c) → OnOk result (HasOpened columns told a c)
@@ -161,25 +205,13 @@ module _ {D : Type 0} (told : D → Told) (columns : List Column) where
   opened_ok (Err why) a b c look same bytes made = tt
 
   pub opened_err : {T : Type 0} (result : Result T OpenFault) (a b c : D) → AllMade told look_calls a b → (told b).honest ≡ (told a).honest → (IsTrue (told a).honest → (told b).bytes ≡ (told a).bytes)
-      → IfErr result (λ why. (calls : List DeviceCall) × (IsBehindLook columns (told b) calls ⊎ (calls ≡ [])) × Stops told calls why b c) → IfErr result (λ why. HasStopped columns told why a c)
+      → IfErr result (λ why. StopsBehindLook columns told why b c) → IfErr result (λ why. HasStopped columns told why a c)
   opened_err (Ok x) a b c look same bytes stops = tt
   opened_err (Err why) a b c look same bytes stops = record {
-    calls = stops.0;
-    behind = still_stops (told a) (told b) stops.0 same bytes stops.1;
-    failed = λ disk. broke_then told look_calls stops.0 a b c look (subst (λ w. Stops told stops.0 w b c) disk stops.2);
-    refused = λ other. (b, look, is_early told stops.0 why b c other stops.2);
-  }
-
-  -- it opened, and memory was wanted behind it
-  pub opened_unheld : (a b : D) → HasOpened columns told a b → HasStopped columns told fault.Memory a b
-  opened_unheld a b opened = record {
-    calls = opened.calls;
-    behind = inl opened.behind;
-    failed = λ wrong. absurd (cc wrong);
-    refused = λ other. let parts = made_parts told look_calls opened.calls a b opened.made in
-        (parts.0, parts.1, record { front = opened.calls; rest = []; parts = sym (append-nil opened.calls); made = parts.2 });
+    failed = λ disk. let s = stops.failed disk in (s.0, may_still columns (told a) (told b) s.0 same bytes s.1, broke_then told look_calls s.0 a b c look s.2);
+    refused = λ other. let s = stops.refused other in (b, look, (s.0, may_read_still (told a) (told b) s.0 same bytes s.1, s.2));
   }
 
   -- the look broke off
   pub look_broke : (a b : D) → BrokeOff told look_calls a b → HasStopped columns told fault.Disk a b
-  look_broke a b off = record { calls = []; behind = inr refl; failed = λ disk. off; refused = λ other. absurd (other refl) }
+  look_broke a b off = record { failed = λ disk. ([], inr (inr (inr refl)), subst (λ (l : List DeviceCall). BrokeOff told l a b) (sym (append-nil look_calls)) off); refused = λ other. absurd (other refl) }

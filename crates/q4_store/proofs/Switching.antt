@@ -4,7 +4,7 @@ use Rattle.std.proofs.Math.Logic.{⊎_elim}
 use Rattle.std.proofs.lemmas.Bool.{cases_eq}
 use Rattle.q4_value.specs.declared.column.Column.{Column}
 use Rattle.q4_table.specs.TableState.{TableState}
-use Rattle.q4_record.specs.Side.{generation_of, Side as IsSide}
+use Rattle.q4_record.specs.Side.{generation_of, OwnSide}
 use Rattle.q4_disk.specs.declared.disk.Side.{Side}
 use Rattle.q4_disk.specs.Told.{Sides, Told}
 use Rattle.q4_disk.specs.Images.{on, other, put, written, Torn, Sided, Within}
@@ -13,7 +13,7 @@ use Rattle.q4_disk.specs.Calls.{Wrote, Synced}
 use Rattle.q4_disk.specs.inner.Laws.{on_put}
 use Rattle.q4_disk.proofs.Moments.{Along, began, wrote, synced}
 use Rattle.q4_disk.proofs.Ranges.{torn_byte}
-use Rattle.q4_store.specs.Reading.{IsBehind, Reads, ReadsAs}
+use Rattle.q4_store.specs.Reading.{IsBehind, ReadsOwn, ReadsAs}
 use Rattle.q4_store.specs.Parts.{IsShut, IsFilled, opened}
 use Rattle.q4_store.proofs.Idle.{shut_idle, idle_alike}
 use Rattle.q4_store.proofs.Lifting.{reads_current}
@@ -24,7 +24,7 @@ gate_written side old one two first same = ap (on side) same ∙ ap (on side) fi
 
 module _ (columns : List Column) (table : TableState) (generation len : ℕ) (side : Side) (old : Told) (f : IsFilled old side columns table generation len) where
   abbrev pub May : Sides → Type 0
-  May c = ReadsAs columns old.images c ⊎ Reads columns c table generation
+  May c = ReadsAs columns old.images c ⊎ ReadsOwn columns c table generation
 
   -- any gate, beside the other side of an image of the start
   pub record AnyGate (c : Sides) : Type 0 where
@@ -35,23 +35,17 @@ module _ (columns : List Column) (table : TableState) (generation len : ℕ) (si
     pub is : on side c ≡ gate ∷ f.shut.rest
 
   -- with an open gate it is the whole table
-  pub gate_whole : (c : Sides) → AnyGate c → IsSide columns (opened (on side c)) table generation len
-  gate_whole c any = subst (λ (bytes : List ℕ). IsSide columns bytes table generation len) (ap opened f.shut.is ∙ sym (ap opened any.is)) f.stands
+  pub gate_whole : (c : Sides) → AnyGate c → OwnSide columns (opened (on side c)) table generation len
+  gate_whole c any = subst (λ (bytes : List ℕ). OwnSide columns bytes table generation len) (ap opened f.shut.is ∙ sym (ap opened any.is)) f.stands
 
   told_generation : generation_of (opened (on side old.bytes)) ≡ generation
   told_generation = sym f.stands.stands.generation_is
 
-  reads_open : (c : Sides) → (any : AnyGate c) → any.gate ≡ 1 → Reads columns c table generation
+  reads_open : (c : Sides) → (any : AnyGate c) → any.gate ≡ 1 → ReadsOwn columns c table generation
   reads_open c any one =
       let here : on side c ≡ opened (on side old.bytes) = any.is ∙ ap (λ (n : ℕ). n ∷ f.shut.rest) one ∙ sym (ap opened f.shut.is) in
-      let stands = subst (λ (bytes : List ℕ). IsSide columns bytes table generation len) (sym here) f.stands in
-      let behind = subst (IsBehind generation) (sym any.same) (f.behind any.from any.image) in
-      inl (record {
-        side = side;
-        len = len;
-        current = record { is_open = stands.stands.reaches.begins.is_open; behind = subst (λ (n : ℕ). IsBehind n (on (other side) c)) (stands.stands.generation_is) behind };
-        stands = stands;
-      })
+      let stands = subst (λ (bytes : List ℕ). OwnSide columns bytes table generation len) (sym here) f.stands in
+      reads_current columns side c table generation len stands (subst (IsBehind generation) (sym any.same) (f.behind any.from any.image))
 
   reads_shut : (c : Sides) → (any : AnyGate c) → any.gate ≢ 1 → ReadsAs columns old.images c
   reads_shut c any shut = (
@@ -78,7 +72,7 @@ module _ (columns : List Column) (table : TableState) (generation len : ℕ) (si
   switch_sync mid new so_far honest does = synced old mid new May AnyGate side so_far honest does any_reads
 
   -- the gate is open in each image
-  pub switched : (new : Told) → on side new.bytes ≡ opened (on side old.bytes) → Within new.images (λ c. on side c ≡ on side new.bytes) → OtherStays side old new → Within new.images (λ c. Reads columns c table generation)
+  pub switched : (new : Told) → on side new.bytes ≡ opened (on side old.bytes) → Within new.images (λ c. on side c ≡ on side new.bytes) → OtherStays side old new → Within new.images (λ c. ReadsOwn columns c table generation)
   switched new is only stays c left =
       let from = stays.each c left in
-      reads_current columns side c table generation len (subst (λ (bytes : List ℕ). IsSide columns bytes table generation len) (sym (only c left ∙ is)) f.stands) (subst (IsBehind generation) (sym from.2) (f.behind from.0 from.1))
+      reads_current columns side c table generation len (subst (λ (bytes : List ℕ). OwnSide columns bytes table generation len) (sym (only c left ∙ is)) f.stands) (subst (IsBehind generation) (sym from.2) (f.behind from.0 from.1))

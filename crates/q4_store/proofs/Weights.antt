@@ -25,7 +25,7 @@ use Rattle.q4_record.specs.declared.replay.Stage.TheVariants as stage
 use Rattle.q4_record.specs.Record.{Record, record_bytes, records_bytes, row_columns}
 use Rattle.q4_record.specs.Replay.{table_after, stage_after, replayed, replays, at_base, at_batches, AllStand}
 use Rattle.q4_record.specs.Schema.{schema_bytes}
-use Rattle.q4_record.specs.Side.{base_at, base_length_of, batch_bytes, batches_bytes, after_batches, BatchesStand, Side}
+use Rattle.q4_record.specs.Side.{base_at, base_length_of, batch_bytes, batches_bytes, after_batches, BatchesStand, OwnSide}
 use Rattle.q4_store.specs.Lengths.{change_size}
 use Rattle.q4_store.proofs.Lengths.{change_length}
 use Rattle.q4_store.proofs.Lifting.{columns_stay}
@@ -119,7 +119,7 @@ batches_leave replay [] = refl
 batches_leave replay (b ∷ bs) = batches_leave (replays replay b) bs ∙ columns_stay replay b
 
 -- a side is at least as long as a copy of its table would be
-pub side_long : (columns : List Column) (bytes : List ℕ) (table : TableState) (generation len : ℕ) → Side columns bytes table generation len → compact_size table ≤ len
+pub side_long : (columns : List Column) (bytes : List ℕ) (table : TableState) (generation len : ℕ) → OwnSide columns bytes table generation len → compact_size table ≤ len
 side_long columns bytes table generation len s =
     let w = s.stands in
     let reaches = w.reaches in

@@ -8,7 +8,7 @@ use Rattle.q4_record.specs.declared.head.Head.TheVariants.{Insert, End}
 use Rattle.q4_record.specs.Record.{Record}
 use Rattle.q4_record.specs.Replay.{replays, at_batches}
 use Rattle.q4_disk.specs.Told.{Sides}
-use Rattle.q4_store.specs.Reading.{Reads}
+use Rattle.q4_store.specs.Reading.{ReadsOwn}
 
 -- the table with all changes that are committed, and those that were appended since, the oldest first
 pub record Content : Type 0 where
@@ -44,12 +44,12 @@ all_committed content = record { committed = table_of content; pending = [] }
 pub record IsPrefix (content : Content) (generation : ℕ) (sides : Sides) : Type 0 where
   pub count : ℕ
   pub within : count ≤ length content.pending
-  pub reads : Reads content.committed.columns sides (table_with content count) generation
+  pub reads : ReadsOwn content.committed.columns sides (table_with content count) generation
 
 -- Opening gives all that is committed, alone or with every change that waits.
 abbrev pub IsAllOrNone : Content → ℕ → Sides → Type 0
-IsAllOrNone content generation sides = Reads content.committed.columns sides content.committed generation ⊎ Reads content.committed.columns sides (table_of content) generation
+IsAllOrNone content generation sides = ReadsOwn content.committed.columns sides content.committed generation ⊎ ReadsOwn content.committed.columns sides (table_of content) generation
 
 -- Or it gives the whole table, with a generation greater by one: a copy whose gate is open.
 abbrev pub IsPrefixOrNew : Content → ℕ → Sides → Type 0
-IsPrefixOrNew content generation sides = IsPrefix content generation sides ⊎ Reads content.committed.columns sides (table_of content) (generation + 1)
+IsPrefixOrNew content generation sides = IsPrefix content generation sides ⊎ ReadsOwn content.committed.columns sides (table_of content) (generation + 1)

@@ -1,19 +1,19 @@
 -- The device calls of a run, in their order.
-use Rattle.std.specs.Prelude.{◌≡◌, ◌≢◌, ◌-◌, ◌⊎◌, ◌↔◌, ℕ, Bool, true, false, IsTrue, List, [], ◌∷◌, ◌++◌, Result, Ok, Err, length, replicate}
+use Rattle.std.specs.Prelude.{◌≡◌, ◌≢◌, ◌+◌, ◌-◌, ◌⊎◌, ◌↔◌, ℕ, Bool, true, false, IsTrue, List, [], ◌∷◌, ◌++◌, Result, Ok, Err, length, replicate}
 use Rattle.q4_value.specs.declared.column.Column.{Column}
-use Rattle.q4_table.specs.TableState.{new_table}
+use Rattle.q4_table.specs.TableState.{TableState, new_table}
 use Rattle.q4_record.specs.Written.{base_bytes}
-use Rattle.q4_record.specs.Side.{base_at, IsOpen}
+use Rattle.q4_record.specs.Side.{base_at, IsOpen, IsNarrow}
 use Rattle.q4_disk.specs.declared.disk.DiskFailed.{DiskFailed}
 use Rattle.q4_disk.specs.declared.disk.Side.{Side}
 use Rattle.q4_disk.specs.declared.disk.Side.TheVariants.{A, B}
 use Rattle.q4_disk.specs.declared.tally.DeviceCall.TheVariants as last
 use Rattle.q4_disk.specs.Told.{Told}
-use Rattle.q4_disk.specs.Images.{size}
+use Rattle.q4_disk.specs.Images.{on, other, size}
 use Rattle.q4_disk.specs.Calls.{IsCall, IsWrite, IsSync, Rests, Wrote, DidCut, Synced}
 use Rattle.q4_store.specs.declared.fault.OpenFault.{OpenFault}
 use Rattle.q4_store.specs.declared.fault.OpenFault.TheVariants as fault
-use Rattle.q4_store.specs.Reading.{IsCurrent}
+use Rattle.q4_store.specs.Reading.{IsCurrent, IsOutgrown, Reads}
 use Rattle.q4_store.specs.Parts.{IsShut}
 use Rattle.q4_store.specs.Looking.{header_bytes}
 
@@ -94,11 +94,11 @@ fill_calls side at last header = Write side at last ∷ Write side 1 header ∷ 
 abbrev pub switch_calls : Side → List DeviceCall
 switch_calls side = Write side 0 (1 ∷ []) ∷ Sync side ∷ []
 
--- a new table, its base with a closing gate and its header, on side A
-abbrev pub create_calls : List Column → Bool → List DeviceCall
-create_calls columns known =
-    let base = base_bytes (new_table columns) in
-    prepare_calls A known ++ (fill_calls A base_at (base ++ 0 ∷ []) (header_bytes 1 (length base)) ++ switch_calls A)
+-- a whole table, its base with a closing gate and its header with this generation, in the three parts
+abbrev pub write_calls : Side → Bool → TableState → ℕ → List DeviceCall
+write_calls side known table generation =
+    let base = base_bytes table in
+    prepare_calls side known ++ (fill_calls side base_at (base ++ 0 ∷ []) (header_bytes generation (length base)) ++ switch_calls side)
 
 -- both sides are synced, and the first bytes of both are read
 abbrev pub look_calls : List DeviceCall
@@ -116,17 +116,49 @@ pub record ReadsCurrent (told : Told) (calls : List DeviceCall) : Type 0 where
   pub current : IsTrue told.honest → IsCurrent side told.bytes
   pub whole : IsTrue told.honest → length ≡ size side told.bytes
 
+-- It is read, its schema is narrower, and its table is written onto the other side, with a generation greater by one. A
+-- gate of that side that is there and closed is not written again.
+pub record Rewrites (columns : List Column) (told : Told) (calls : List DeviceCall) : Type 0 where
+  pub side : Side
+  pub length : ℕ
+  pub known : Bool
+  pub table : TableState
+  pub generation : ℕ
+  pub are : calls ≡ load_calls side length ++ write_calls (other side) known table (generation + 1)
+  pub current : IsTrue told.honest → IsCurrent side told.bytes
+  pub whole : IsTrue told.honest → length ≡ size side told.bytes
+  pub narrow : IsTrue told.honest → IsNarrow columns (on side told.bytes)
+  pub reads : IsTrue told.honest → Reads columns told.bytes table generation
+  pub known_is : IsTrue told.honest → (known ≡ true) ↔ IsShut (on (other side) told.bytes)
+
 -- Neither side is open, and a new table is written. A gate of side A that is there and closed is not written again.
 pub record WritesNew (columns : List Column) (told : Told) (calls : List DeviceCall) : Type 0 where
   pub known : Bool
-  pub are : calls ≡ create_calls columns known
+  pub are : calls ≡ write_calls A known (new_table columns) 1
   pub closed_a : IsTrue told.honest → IsOpen told.bytes.a → ⊥
   pub closed_b : IsTrue told.honest → IsOpen told.bytes.b → ⊥
   pub known_is : IsTrue told.honest → (known ≡ true) ↔ IsShut told.bytes.a
 
--- what opening calls behind its look at both sides
+-- What opening calls behind its look at both sides. It reads alone only where the side's schema is not narrower.
 abbrev pub IsBehindLook : List Column → Told → List DeviceCall → Type 0
-IsBehindLook columns told calls = ReadsCurrent told calls ⊎ WritesNew columns told calls
+IsBehindLook columns told calls =
+    (ReadsCurrent told calls × (IsTrue told.honest → IsOutgrown columns told.bytes → ⊥))
+    ⊎ Rewrites columns told calls
+    ⊎ WritesNew columns told calls
+
+-- what it may have begun to call there
+abbrev pub MayBehindLook : List Column → Told → List DeviceCall → Type 0
+MayBehindLook columns told calls =
+    ReadsCurrent told calls ⊎ Rewrites columns told calls ⊎ WritesNew columns told calls ⊎ (calls ≡ [])
+
+-- what it may have called there before it is refused for another reason than the disk
+abbrev pub MayReadBehindLook : Told → List DeviceCall → Type 0
+MayReadBehindLook told calls = ReadsCurrent told calls ⊎ (calls ≡ [])
+
+-- A run behind the look that is refused broke off where the disk failed, and has only read for any other reason.
+pub record StopsBehindLook {D : Type 0} (columns : List Column) (told : D → Told) (why : OpenFault) (old new : D) : Type 0 where
+  pub failed : why ≡ fault.Disk → (calls : List DeviceCall) × MayBehindLook columns (told old) calls × BrokeOff told calls old new
+  pub refused : why ≢ fault.Disk → (calls : List DeviceCall) × MayReadBehindLook (told old) calls × StopsEarly told calls old new
 
 -- An opening that succeeds made all its calls.
 pub record HasOpened {D : Type 0} (columns : List Column) (told : D → Told) (old new : D) : Type 0 where
@@ -134,9 +166,8 @@ pub record HasOpened {D : Type 0} (columns : List Column) (told : D → Told) (o
   pub behind : IsBehindLook columns (told old) calls
   pub made : AllMade told (look_calls ++ calls) old new
 
--- One that is refused broke off in them, or in its look, where the disk failed. For any other reason it stops behind its look.
+-- One that is refused broke off in them, or in its look, where the disk failed. For any other reason it stops behind its
+-- look, and has written nothing.
 pub record HasStopped {D : Type 0} (columns : List Column) (told : D → Told) (why : OpenFault) (old new : D) : Type 0 where
-  pub calls : List DeviceCall
-  pub behind : IsBehindLook columns (told old) calls ⊎ (calls ≡ [])
-  pub failed : why ≡ fault.Disk → BrokeOff told (look_calls ++ calls) old new
-  pub refused : why ≢ fault.Disk → (mid : D) × AllMade told look_calls old mid × StopsEarly told calls mid new
+  pub failed : why ≡ fault.Disk → (calls : List DeviceCall) × MayBehindLook columns (told old) calls × BrokeOff told (look_calls ++ calls) old new
+  pub refused : why ≢ fault.Disk → (mid : D) × AllMade told look_calls old mid × ((calls : List DeviceCall) × MayReadBehindLook (told old) calls × StopsEarly told calls mid new)

@@ -8,5 +8,6 @@ pub mod Store
 pub mod Waiting
 pub mod Opening
 pub mod Looking
+pub mod Finding
 pub mod Device
 pub mod CopyCalls

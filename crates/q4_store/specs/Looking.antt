@@ -1,12 +1,12 @@
--- What the steps of opening find: a look at both sides, the choice of one, its table, or a new one.
-use Rattle.std.specs.Prelude.{◌≡◌, ◌<◌, ◌+◌, ◌++◌, ◌↔◌, ◌⊎◌, ℕ, Bool, true, IsTrue, List, [], ◌∷◌, length, codes}
+-- What the steps of opening find: a look at both sides, the choice of one, its table, or one that is written.
+use Rattle.std.specs.Prelude.{◌≡◌, ◌<◌, ◌+◌, ◌++◌, ◌↔◌, ◌⊎◌, ℕ, Bool, true, false, IsTrue, List, [], ◌∷◌, length, codes}
 use Rattle.std.specs.Int.{w64, to_be_bytes}
 use Rattle.q4_value.specs.declared.column.Column.{Column}
-use Rattle.q4_table.specs.TableState.{new_table}
+use Rattle.q4_table.specs.TableState.{TableState}
 use Rattle.q4_record.specs.declared.side.SideFault.TheVariants as side_fault
 use Rattle.q4_record.specs.Faults.{SideFails}
 use Rattle.q4_record.specs.Written.{base_bytes}
-use Rattle.q4_record.specs.Side.{base_at, generation_of, HasMagic, IsOpen}
+use Rattle.q4_record.specs.Side.{base_at, generation_of, HasMagic, IsOpen, IsNarrow, OwnSide, Side as IsSide}
 use Rattle.q4_disk.specs.declared.disk.Side.{Side}
 use Rattle.q4_disk.specs.declared.disk.Side.TheVariants.{A, B}
 use Rattle.q4_disk.specs.Told.{Sides, Told}
@@ -68,21 +68,21 @@ LoadFails columns bytes side (fault.Schema column) = SideFails columns bytes (si
 LoadFails columns bytes side (fault.Large limit) = SideFails columns bytes (side_fault.Large limit)
 LoadFails columns bytes side fault.Memory = Unit {0}
 
--- neither side is open, a crash leaves what is read, and the gate of side A is known to be closed or may be
-pub record StartsNew (told : Told) (known : Bool) : Type 0 where
-  pub closed_a : IsOpen told.bytes.a → ⊥
-  pub closed_b : IsOpen told.bytes.b → ⊥
-  pub still : IsStill told
-  pub ready : IsReady known A told.bytes
+-- What the bytes of a side hold, and whether its schema is narrower than the columns. Where it isn't, it is of these very
+-- columns.
+pub record IsLoaded (columns : List Column) (bytes : List ℕ) (table : TableState) (generation len : ℕ) (narrow : Bool) : Type 0 where
+  pub side : IsSide columns bytes table generation len
+  pub own : narrow ≡ false → OwnSide columns bytes table generation len
+  pub narrow_is : IsTrue narrow ↔ IsNarrow columns bytes
 
 -- what stands between a side's gate and its base
 abbrev pub header_bytes : ℕ → ℕ → List ℕ
 header_bytes generation length = codes "Q4O2" ++ to_be_bytes w64 generation ++ to_be_bytes w64 length
 
--- A new table as it is written: its base with a closing gate, and the header.
-pub record IsDraft (columns : List Column) (base header : List ℕ) : Type 0 where
-  pub base_is : base ≡ base_bytes (new_table columns) ++ 0 ∷ []
-  pub header_is : header ≡ header_bytes 1 (length (base_bytes (new_table columns)))
+-- A table as it is written: its base with a closing gate, and the header.
+pub record IsDraft (table : TableState) (generation : ℕ) (base header : List ℕ) : Type 0 where
+  pub base_is : base ≡ base_bytes table ++ 0 ∷ []
+  pub header_is : header ≡ header_bytes generation (length (base_bytes table))
 
-abbrev pub draft_length : List Column → ℕ
-draft_length columns = base_at + length (base_bytes (new_table columns)) + 1
+abbrev pub draft_length : TableState → ℕ
+draft_length table = base_at + length (base_bytes table) + 1

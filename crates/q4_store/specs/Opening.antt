@@ -4,20 +4,23 @@ use Rattle.q4_value.specs.declared.column.Column.{Column}
 use Rattle.q4_record.specs.declared.side.SideFault.{SideFault}
 use Rattle.q4_record.specs.declared.side.SideFault.TheVariants as side_fault
 use Rattle.q4_record.specs.Faults.{SideFails}
-use Rattle.q4_record.specs.Side.{generation_of, IsOpen}
+use Rattle.q4_record.specs.Side.{generation_of, HasMagic, IsOpen, IsNarrow}
 use Rattle.q4_disk.specs.declared.disk.Side.{Side}
 use Rattle.q4_disk.specs.declared.disk.Side.TheVariants.{A, B}
 use Rattle.q4_disk.specs.Told.{Sides}
-use Rattle.q4_disk.specs.Images.{on}
+use Rattle.q4_disk.specs.Images.{on, other}
 use Rattle.q4_disk.specs.Calls.{bump}
 use Rattle.q4_store.specs.declared.fault.OpenFault.{OpenFault}
 use Rattle.q4_store.specs.declared.fault.OpenFault.TheVariants as fault
-use Rattle.q4_record.specs.Side.{HasMagic}
 use Rattle.q4_store.specs.Reading.{IsCurrent}
 
--- The side that a store of these two sides has: the one that counts, or side A where neither is open.
-abbrev pub IsChosen : Sides → Side → Type 0
-IsChosen sides side = IsCurrent side sides ⊎ ((IsOpen sides.a → ⊥) × (IsOpen sides.b → ⊥) × (side ≡ A))
+-- The side that a store of these two sides has: the one that counts, or the other one where the schema of that is narrower
+-- than the columns, or side A where neither is open.
+abbrev pub IsChosen : List Column → Sides → Side → Type 0
+IsChosen columns sides side =
+    (IsCurrent side sides × (IsNarrow columns (on side sides) → ⊥))
+    ⊎ (IsCurrent (other side) sides × IsNarrow columns (on (other side) sides))
+    ⊎ ((IsOpen sides.a → ⊥) × (IsOpen sides.b → ⊥) × (side ≡ A))
 
 -- open, with another magic
 pub record LacksMagic (bytes : List ℕ) : Type 0 where

@@ -1,6 +1,6 @@
 -- What the parts of a write onto the side that isn't current stand on.
 use Rattle.std.specs.Prelude.{◌≡◌, ◌≢◌, ◌<◌, ◌⊎◌, ℕ, Bool, true, false, List, ◌∷◌, drop, replicate}
-use Rattle.q4_record.specs.Side.{base_at, generation_of, HasMagic, IsOpen, Side as IsSide}
+use Rattle.q4_record.specs.Side.{base_at, generation_of, HasMagic, IsOpen, OwnSide}
 use Rattle.q4_value.specs.declared.column.Column.{Column}
 use Rattle.q4_table.specs.TableState.{TableState}
 use Rattle.q4_disk.specs.declared.disk.Side.{Side}
@@ -49,5 +49,5 @@ opened bytes = 1 ∷ drop 1 bytes
 pub record IsFilled (told : Told) (side : Side) (columns : List Column) (table : TableState) (generation len : ℕ) : Type 0 where
   pub shut : IsShut (on side told.bytes)
   pub only : Within told.images (λ c. on side c ≡ on side told.bytes)
-  pub stands : IsSide columns (opened (on side told.bytes)) table generation len
+  pub stands : OwnSide columns (opened (on side told.bytes)) table generation len
   pub behind : Within told.images (λ c. IsBehind generation (on (other side) c))

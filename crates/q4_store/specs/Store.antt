@@ -15,7 +15,7 @@ use Rattle.q4_table.specs.Valid.{IsValidTable}
 use Rattle.q4_record.specs.Record.{Record, record_bytes, records_bytes}
 use Rattle.q4_record.specs.Replay.{at_batches, AllStand}
 use Rattle.q4_record.specs.Schema.{schema_bytes}
-use Rattle.q4_record.specs.Side.{side_limit, generation_limit, base_at, Side as IsSide}
+use Rattle.q4_record.specs.Side.{side_limit, generation_limit, base_at, OwnSide}
 use Rattle.q4_disk.specs.declared.disk.Side.{Side}
 use Rattle.q4_disk.specs.Told.{Sides, Told}
 use Rattle.q4_disk.specs.Images.{on, other, size, Within}
@@ -77,7 +77,7 @@ cost_of store size = batch_size store.records size
 
 -- In each image the current side is the one that is read, which stands for the table, and the other side is behind it.
 pub record IsSettled (told : Told) (side : Side) (table : TableState) (generation end : ℕ) : Type 0 where
-  pub stands : IsSide table.columns (on side told.bytes) table generation end
+  pub stands : OwnSide table.columns (on side told.bytes) table generation end
   pub only : Within told.images (λ c. on side c ≡ on side told.bytes)
   pub behind : Within told.images (λ c. IsBehind generation (on (other side) c))
 
@@ -145,7 +145,7 @@ end_extra (Some progress) columns number row =
 -- table with a generation greater by one, and the new side, its gate taken as open, is that whole table.
 pub record IsUnsure (content : Content) (generation : ℕ) (side : Side) (len : ℕ) (sides : Sides) : Type 0 where
   pub reads : IsPrefixOrNew content generation sides
-  pub whole : IsSide content.committed.columns (opened (on side sides)) (table_of content) (generation + 1) len
+  pub whole : OwnSide content.committed.columns (opened (on side sides)) (table_of content) (generation + 1) len
 
 -- The store of this content is failed behind a finish that was unsure, with what a crash may leave then.
 pub record StandsUnsure {D : Type 0} (told : D → Told) (store : Stored D) (content : Content) : Type 0 where

@@ -1,25 +1,28 @@
-ghost use Rattle.std.specs.Prelude.{◌≡◌, ℕ, List, IsTrue, IfOk, OnOk, length};
-ghost use Rattle.std.specs.Int.{w64, to_be_bytes};
-ghost use Rattle.q4_value.specs.declared.column.Column.{Column};
-ghost use Rattle.q4_value.specs.Names.{AreColumns};
-ghost use Rattle.q4_table.specs.TableState.{new_table};
-ghost use Rattle.q4_disk.specs.declared.disk.Side.TheVariants.{A};
+// A whole table is written onto a side that counts for nothing: a new one, or that of a side of a narrower schema.
+
+ghost use Rattle.std.specs.Prelude.{◌≡◌, ◌⊎◌, ℕ, [], IsTrue, IfOk, OnOk};
+ghost use Rattle.q4_table.specs.TableState.{TableState};
+ghost use Rattle.q4_record.specs.Schema.{IsSchema};
+ghost use Rattle.q4_record.specs.Written.{IsWritten};
 ghost use Rattle.q4_disk.specs.Told.{Sides, Told};
+ghost use Rattle.q4_disk.specs.Images.{on, other, Within};
 ghost use Rattle.q4_disk.specs.Time.{LeavesOnly, OtherStays};
 ghost use Rattle.q4_disk.specs.Calls.{CountsFault};
-ghost use Rattle.q4_store.specs.Reading.{ReadsAs};
+ghost use Rattle.q4_store.specs.Reading.{IsBehind, ReadsAs, ReadsOwn};
+ghost use Rattle.q4_store.specs.Parts.{IsReady};
 ghost use Rattle.q4_store.specs.Store.{IsSettled};
-ghost use Rattle.q4_store.specs.Looking.{StartsNew, IsDraft, header_bytes, draft_length};
-ghost use Rattle.q4_store.specs.Device.{Makes, create_calls};
+ghost use Rattle.q4_store.specs.Looking.{IsDraft, draft_length};
+ghost use Rattle.q4_store.specs.Device.{Makes, write_calls};
 
+use crate::copying::{Progress, gather_rest, header_of};
 use crate::limit::BASE_AT;
 use crate::parts::{fill, prepare, switch};
 use q4_disk::{Disk, DiskFailed, Side};
-use q4_record::{put_next, put_schema};
-use q4_value::{Bytes, Columns, NoMemory};
+use q4_table::{Table, tables_are_valid};
+use q4_value::{Bytes, NoMemory};
 use std::alloc::Global;
 
-/// The bytes of a new table as they are written.
+/// The bytes of a table as they are written.
 #[derive(Drop)]
 pub(crate) struct Draft {
     /// The base and the closing gate.
@@ -28,46 +31,47 @@ pub(crate) struct Draft {
     pub header: [u8; 20],
 }
 
-/// Makes the bytes of a table of these columns without a row.
-pub(crate) fn make_draft(alloc: Global, columns: &Columns) -> Result<Draft, NoMemory>
-    requires { AreColumns columns.now }
-    ensures { IfOk result (λ draft. IsDraft columns.now draft.base draft.header) }
+/// Makes the bytes of a table, with this generation.
+pub(crate) fn make_draft(alloc: Global, table: &Table, generation: u64) -> Result<Draft, NoMemory>
+    requires { IsSchema table.now.columns }
+    ensures { IfOk result (λ draft. IsDraft table.now generation draft.base draft.header) }
 {
-    let mut base = Bytes::new(alloc);
-    put_schema(columns.as_slice(), &mut base)?;
-    put_next(1, &mut base)?;
-    let header = header_of(base.as_slice().len() as u64);
-    base.push(&[0])?;
+    tables_are_valid(table);
+    let start = Progress {
+        cursor: 1,
+        at: BASE_AT,
+    };
+    let base = gather_rest(alloc, table, start, &[])?;
+    // the base but for the closing gate
+    let header = header_of(generation, base.as_slice().len() as u64 - 1);
     Ok(Draft { base, header })
 }
 
-// The magic, generation 1, and the length of the base.
-fn header_of(length: u64) -> [u8; 20]
-    ensures { result ≡ header_bytes 1 length }
-{
-    let [a, b, c, d, e, f, g, h] = length.to_be_bytes();
-    [
-        b'Q', b'4', b'O', b'2', 0, 0, 0, 0, 0, 0, 0, 1, a, b, c, d, e, f, g, h,
-    ]
-}
-
-/// Writes a new table on side A, in the parts prepare, fill and switch.
-pub(crate) fn create<D: Disk>(disk: &mut D, known: bool, draft: &Draft) -> Result<(), DiskFailed>
-    requires { IsTrue (D.told disk.old).honest → StartsNew (D.told disk.old) known }
+/// Writes a table onto a side that counts for nothing, in the parts prepare, fill and switch.
+pub(crate) fn write_draft<D: Disk>(
+    disk: &mut D,
+    side: Side,
+    known: bool,
+    draft: &Draft,
+) -> Result<(), DiskFailed>
+    requires { IsTrue (D.told disk.old).honest → Within (D.told disk.old).images (IsReady known side) }
     ensures honest { (D.told disk.new).honest ≡ (D.told disk.old).honest }
     ensures faults { CountsFault result (D.told disk.old).faults (D.told disk.new).faults }
-    // At each moment inside it each image reads as one that there was.
-    ensures any_moment { (columns : List Column) → AreColumns columns → IsDraft columns draft.now.base draft.now.header → IsTrue (D.told disk.old).honest
-        → LeavesOnly (D.told disk.old) (D.told disk.new) (ReadsAs columns (D.told disk.old).images) }
-    // After success each is the new table.
-    ensures done { OnOk result ((columns : List Column) → AreColumns columns → IsDraft columns draft.now.base draft.now.header → IsTrue (D.told disk.old).honest
-        → IsSettled (D.told disk.new) A (new_table columns) 1 (draft_length columns)) }
-    ensures other { IsTrue (D.told disk.old).honest → OtherStays A (D.told disk.old) (D.told disk.new) }
-    ensures device { (columns : List Column) → IsDraft columns draft.now.base draft.now.header → Makes D.told (create_calls columns known) result disk.old disk.new }
+    // At each moment inside it each image reads as one that there was, or as the table.
+    ensures any_moment { (table : TableState) (generation : ℕ) → IsWritten table generation [] 0 [] → IsDraft table generation draft.now.base draft.now.header
+        → IsTrue (D.told disk.old).honest → Within (D.told disk.old).images (λ c. IsBehind generation (on (other side) c))
+        → LeavesOnly (D.told disk.old) (D.told disk.new) (λ c. ReadsAs table.columns (D.told disk.old).images c ⊎ ReadsOwn table.columns c table generation) }
+    // After success the side is the table in each image.
+    ensures done { OnOk result ((table : TableState) (generation : ℕ) → IsWritten table generation [] 0 [] → IsDraft table generation draft.now.base draft.now.header
+        → IsTrue (D.told disk.old).honest → Within (D.told disk.old).images (λ c. IsBehind generation (on (other side) c))
+        → IsSettled (D.told disk.new) side table generation (draft_length table)) }
+    ensures other { IsTrue (D.told disk.old).honest → OtherStays side (D.told disk.old) (D.told disk.new) }
+    ensures device { (table : TableState) (generation : ℕ) → IsDraft table generation draft.now.base draft.now.header
+        → Makes D.told (write_calls side known table generation) result disk.old disk.new }
 {
     let mut known = known;
-    prepare(disk, Side::A, &mut known)?;
-    fill(disk, Side::A, BASE_AT, draft.base.as_slice(), &draft.header)?;
-    switch(disk, Side::A)?;
+    prepare(disk, side, &mut known)?;
+    fill(disk, side, BASE_AT, draft.base.as_slice(), &draft.header)?;
+    switch(disk, side)?;
     Ok(())
 }

@@ -11,12 +11,14 @@ pub enum OpenFault {
     /// sides of one generation are damaged at 5 of side B.
     #[error("damaged {} {}", letter(.0), .1)]
     Damaged(Side, u64),
-    /// The schema is another than that of the definition, at this column first, counted from 1, or behind the last one.
+    /// The schema is another than that of the definition, at this column first, counted from 1, or behind the last one. A
+    /// column that takes null in the definition alone is none: the side is rewritten.
     #[error("schema {0}")]
     Schema(u32),
     /// A limit is passed: 1 more than 250,000 rows, 2 more than 33,554,432 bytes of rows, 3 a next number over 2^62,
     /// 4 a text of more than 65,535 bytes, 5 a row of more than 1,048,576 bytes, 6 a side of more than 536,870,912
-    /// bytes, 7 a generation over 2^62, 8 no room for the end of each row within the bytes of a side.
+    /// bytes, 7 a generation over 2^62, or of 2^62 where a column takes null in the definition alone, 8 no room for the end
+    /// of each row within the bytes of a side.
     #[error("large {0}")]
     Large(u32),
     /// Memory was wanted and could not be had.

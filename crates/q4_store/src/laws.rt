@@ -12,12 +12,12 @@ ghost use Rattle.q4_table.specs.Adding.{add_row};
 ghost use Rattle.q4_table.specs.Valid.{IsValidTable};
 ghost use Rattle.q4_record.specs.Record.{Record as Change, record_bytes, records_bytes};
 ghost use Rattle.q4_record.specs.Schema.{schema_bytes};
-ghost use Rattle.q4_record.specs.Side.{Side, HasRoom, base_at, side_limit, generation_limit};
+ghost use Rattle.q4_record.specs.Side.{OwnSide, HasRoom, base_at, side_limit, generation_limit};
 ghost use Rattle.q4_record.specs.Written.{row_record, side_bytes};
 ghost use Rattle.q4_disk.specs.Told.{Sides};
 ghost use Rattle.q4_store.specs.declared.fault.OpenFault.{OpenFault as Fault};
 ghost use Rattle.q4_store.specs.declared.fault.OpenFault.TheVariants as fault;
-ghost use Rattle.q4_store.specs.Reading.{Reads};
+ghost use Rattle.q4_store.specs.Reading.{Reads, ReadsOwn, Opens, MayLeave};
 ghost use Rattle.q4_store.specs.Opening.{OpenFails, IsOutside};
 ghost use Rattle.q4_store.specs.Content.{Content, row_added, row_ended, table_of, table_with, with_change, all_committed, IsPrefix, IsPrefixOrNew};
 ghost use Rattle.q4_store.specs.Copied.{IsCopied, IsFinished, without_owners, rows_below, cursor_after, taken, rest_records, copy_bytes, piece_bytes};
@@ -29,6 +29,10 @@ ghost use Rattle.q4_store.specs.Store.{pending_length, batch_size};
 pub fn opening_laws()
     // They read as one table at most, with one generation.
     ensures once { (columns : List Header) (sides : Sides) (one other : TableState) (g h : ℕ) → Reads columns sides one g → Reads columns sides other h → (one ≡ other) × (g ≡ h) }
+    // Opening gives one table at most, with one generation.
+    ensures opens_once { (columns : List Header) (sides : Sides) (one other : TableState) (g h : ℕ) → Opens columns sides one g → Opens columns sides other h → (one ≡ other) × (g ≡ h) }
+    // What a crash inside an opening leaves is opened as what was there would have been.
+    ensures again { (columns : List Header) (one two : Sides) (table : TableState) (g : ℕ) → MayLeave columns one two → Opens columns two table g → Opens columns one table g }
     // Where they read as a table there is no fault but that of the disk and want of memory.
     ensures apart { (columns : List Header) (sides : Sides) (table : TableState) (g : ℕ) (why : Fault) → AreColumns columns → Reads columns sides table g → OpenFails columns sides why
         → (why ≡ fault.Disk) ⊎ (why ≡ fault.Memory) }
@@ -46,17 +50,17 @@ pub fn content_laws()
         → table_of (with_change content (row_ended number)) ≡ record (table_of content) { rows = without_row number (table_of content).rows } }
     // A commit leaves the table.
     ensures committed { (content : Content) → table_of (all_committed content) ≡ table_of content }
-    // What is read again is what is committed and a prefix of what waits, with the store's generation.
-    ensures reopened { (content : Content) (generation again : ℕ) (sides : Sides) (table : TableState) → IsPrefix content generation sides → Reads content.committed.columns sides table again
+    // What opening gives again is what is committed and a prefix of what waits, with the store's generation.
+    ensures reopened { (content : Content) (generation again : ℕ) (sides : Sides) (table : TableState) → IsPrefix content generation sides → Opens content.committed.columns sides table again
         → (count : ℕ) × (count ≤ length content.pending) × (table ≡ table_with content count) × (again ≡ generation) }
     // Behind a finish that is unsure it may be all of it too, with the next generation.
-    ensures reopened_unsure { (content : Content) (generation again : ℕ) (sides : Sides) (table : TableState) → IsPrefixOrNew content generation sides → Reads content.committed.columns sides table again
+    ensures reopened_unsure { (content : Content) (generation again : ℕ) (sides : Sides) (table : TableState) → IsPrefixOrNew content generation sides → Opens content.committed.columns sides table again
         → ((count : ℕ) × (count ≤ length content.pending) × (table ≡ table_with content count) × (again ≡ generation)) ⊎ ((table ≡ table_of content) × (again ≡ generation + 1)) }
     // A change leaves what was there before it.
     ensures earlier { (content : Content) (change : Change) (count : ℕ) → count ≤ length content.pending → table_with (with_change content change) count ≡ table_with content count }
     // Where nothing waits, what opening gives is all that is committed.
     ensures nothing_waits { (content : Content) (generation : ℕ) (sides : Sides) → content.pending ≡ [] → IsPrefix content generation sides
-        → Reads content.committed.columns sides content.committed generation }
+        → ReadsOwn content.committed.columns sides content.committed generation }
 {}
 
 /// Laws of how long changes make a side.
@@ -91,7 +95,7 @@ pub fn copy_laws()
     ensures header { (generation : ℕ) (base behind : List ℕ) → side_bytes generation base behind ≡ 1 ∷ (header_bytes generation (length base) ++ (base ++ behind)) }
     ensures read { (table : TableState) (copied : List Change) (generation : ℕ) → IsFinished table copied → 1 ≤ generation → generation ≤ generation_limit
         → length (side_bytes generation (schema_bytes table.columns ++ records_bytes copied) (0 ∷ [])) ≤ side_limit → HasRoom table (base_at + length (schema_bytes table.columns ++ records_bytes copied) + 1)
-        → Side table.columns (side_bytes generation (schema_bytes table.columns ++ records_bytes copied) (0 ∷ [])) table generation (base_at + length (schema_bytes table.columns ++ records_bytes copied) + 1) }
+        → OwnSide table.columns (side_bytes generation (schema_bytes table.columns ++ records_bytes copied) (0 ∷ [])) table generation (base_at + length (schema_bytes table.columns ++ records_bytes copied) + 1) }
     // Neither the records of a piece, nor the cursor behind it, nor what is left see an owner.
     ensures owners_of_piece { (table : TableState) (cursor most : ℕ) → map (row_record table.columns) (taken most cursor (without_owners table)) ≡ map (row_record table.columns) (taken most cursor table) }
     ensures owners_of_cursor { (table : TableState) (cursor most : ℕ) → cursor_after cursor (taken most cursor (without_owners table)) ≡ cursor_after cursor (taken most cursor table) }

@@ -1,10 +1,10 @@
 ghost use Rattle.std.specs.Prelude.{◌≡◌, ◌≤◌, ◌<◌, ◌≢◌, ◌∷◌, [], ℕ, List, IsTrue, IfOk, IfErr, OnOk, length};
 ghost use Rattle.q4_value.specs.Names.{AreColumns};
-ghost use Rattle.q4_record.specs.Side.{IsOpen, Side as IsSide};
+ghost use Rattle.q4_record.specs.Side.{IsOpen};
 ghost use Rattle.q4_disk.specs.Told.{Sides, Told};
 ghost use Rattle.q4_disk.specs.Images.{on, size};
 ghost use Rattle.q4_store.specs.Opening.{CountsOpen};
-ghost use Rattle.q4_store.specs.Looking.{AddsNone, LoadFails};
+ghost use Rattle.q4_store.specs.Looking.{AddsNone, IsLoaded, LoadFails};
 ghost use Rattle.q4_store.specs.Device.{DeviceCall, Read, AllMade, Stops, load_calls};
 
 use crate::fault::OpenFault;
@@ -24,6 +24,8 @@ pub(crate) struct Loaded {
     pub generation: u64,
     /// The length up to and with the closing gate.
     pub end: u64,
+    /// Whether the side's schema is narrower than the columns.
+    pub narrow: bool,
 }
 
 /// Reads a side that is open, in one piece.
@@ -42,8 +44,8 @@ pub(crate) fn load<D: Disk>(
     // It asks for the side's size and then for so many bytes.
     ensures device { IfOk result (λ loaded. (n : ℕ) × (IsTrue (D.told disk.old).honest → n ≡ size side (D.told disk.old).bytes) × AllMade D.told (load_calls side n) disk.old disk.new) }
     ensures device_err { IfErr result (λ fault. (n : ℕ) × (IsTrue (D.told disk.old).honest → n ≡ size side (D.told disk.old).bytes) × Stops D.told (load_calls side n) fault disk.old disk.new) }
-    ensures sound { IfOk result (λ loaded. (bytes : List ℕ) × IsSide columns.now bytes loaded.table loaded.generation loaded.end) }
-    ensures loaded { IfOk result (λ loaded. IsTrue (D.told disk.old).honest → IsSide columns.now (on side (D.told disk.old).bytes) loaded.table loaded.generation loaded.end) }
+    ensures sound { IfOk result (λ loaded. (bytes : List ℕ) × IsLoaded columns.now bytes loaded.table loaded.generation loaded.end loaded.narrow) }
+    ensures loaded { IfOk result (λ loaded. IsTrue (D.told disk.old).honest → IsLoaded columns.now (on side (D.told disk.old).bytes) loaded.table loaded.generation loaded.end loaded.narrow) }
     ensures fails { IfErr result (λ fault. IsTrue (D.told disk.old).honest → IsOpen (on side (D.told disk.old).bytes) → LoadFails columns.now (on side (D.told disk.old).bytes) side fault) }
 {
     let Ok(size) = disk.size(side) else {
@@ -73,8 +75,8 @@ fn load_into<D: Disk>(
     ensures writes { (D.told disk.new).writes ≡ (D.told disk.old).writes }
     ensures device { IfOk result (λ loaded. AllMade D.told (Read side 0 (length bytes.old) ∷ []) disk.old disk.new) }
     ensures device_err { IfErr result (λ fault. Stops D.told (Read side 0 (length bytes.old) ∷ []) fault disk.old disk.new) }
-    ensures sound { IfOk result (λ loaded. (bytes : List ℕ) × IsSide columns.now bytes loaded.table loaded.generation loaded.end) }
-    ensures loaded { IfOk result (λ loaded. IsTrue (D.told disk.old).honest → IsSide columns.now (on side (D.told disk.old).bytes) loaded.table loaded.generation loaded.end) }
+    ensures sound { IfOk result (λ loaded. (bytes : List ℕ) × IsLoaded columns.now bytes loaded.table loaded.generation loaded.end loaded.narrow) }
+    ensures loaded { IfOk result (λ loaded. IsTrue (D.told disk.old).honest → IsLoaded columns.now (on side (D.told disk.old).bytes) loaded.table loaded.generation loaded.end loaded.narrow) }
     ensures fails { IfErr result (λ fault. IsTrue (D.told disk.old).honest → IsOpen (on side (D.told disk.old).bytes) → LoadFails columns.now (on side (D.told disk.old).bytes) side fault) }
 {
     let Ok(count) = disk.read(side, 0, bytes) else {
@@ -96,7 +98,7 @@ fn zeros(alloc: Global, size: usize) -> Result<Vec<u8>, OpenFault>
 // The table of the bytes of a side that is open.
 fn parse(alloc: Global, side: Side, bytes: &[u8], columns: &Columns) -> Result<Loaded, OpenFault>
     requires { AreColumns columns.now }
-    ensures side { IfOk result (λ loaded. IsSide columns.now bytes.now loaded.table loaded.generation loaded.end) }
+    ensures side { IfOk result (λ loaded. IsLoaded columns.now bytes.now loaded.table loaded.generation loaded.end loaded.narrow) }
     ensures no_disk { IfErr result (λ fault. fault ≢ OpenFault.Disk) }
     ensures fails { IfErr result (λ fault. IsOpen bytes.now → LoadFails columns.now bytes.now side fault) }
 {
@@ -104,10 +106,11 @@ fn parse(alloc: Global, side: Side, bytes: &[u8], columns: &Columns) -> Result<L
         return Err(OpenFault::Memory);
     };
     match read_side(alloc, bytes, columns) {
-        Ok((table, generation, end)) => Ok(Loaded {
+        Ok((table, generation, end, narrow)) => Ok(Loaded {
             table,
             generation,
             end,
+            narrow,
         }),
         Err(SideFault::Closed) => Err(OpenFault::Damaged(side, 0)),
         Err(SideFault::Damaged(place)) => Err(OpenFault::Damaged(side, place)),

@@ -4,17 +4,27 @@
 ghost use Rattle.std.specs.Prelude.{◌≡◌, ◌+◌, ◌++◌, ◌≤◌, ◌⊎◌, ℕ, true, false, List, [], ◌∷◌, IsTrue, OnOk, OnErr, length};
 ghost use Rattle.q4_value.specs.declared.column.Column.{Column};
 ghost use Rattle.q4_table.specs.TableState.{TableState};
-ghost use Rattle.q4_record.specs.Side.{Side as IsSide};
+ghost use Rattle.q4_record.specs.Side.{OwnSide};
 ghost use Rattle.q4_disk.specs.Told.{Sides, Told};
 ghost use Rattle.q4_disk.specs.Images.{on, other, size, written, Within};
 ghost use Rattle.q4_disk.specs.Time.{LeavesOnly, OtherStays};
 ghost use Rattle.q4_disk.specs.Calls.{CountsFault};
-ghost use Rattle.q4_store.specs.Reading.{Reads, ReadsAs, IsBehind};
+ghost use Rattle.q4_store.specs.Reading.{ReadsOwn, ReadsAs, IsBehind};
 ghost use Rattle.q4_store.specs.Parts.{IsShut, IsBlank, IsSpare, IsReady, IsFilled, opened};
 ghost use Rattle.q4_store.specs.Device.DeviceCall.{Write};
 ghost use Rattle.q4_store.specs.Device.{Makes, BrokeOff, extend_calls, close_calls, blank_calls, prepare_calls, fill_calls, switch_calls};
 
 use q4_disk::{Disk, DiskFailed, Side};
+
+/// The side that isn't this one.
+pub(crate) fn other_of(side: Side) -> Side
+    ensures { result ≡ other side }
+{
+    match side {
+        Side::A => Side::B,
+        Side::B => Side::A,
+    }
+}
 
 /// Sees to it that the gate of a side is there, closed and synced. Where that is known it does nothing.
 pub(crate) fn close<D: Disk>(disk: &mut D, side: Side, known: bool) -> Result<(), DiskFailed>
@@ -158,7 +168,7 @@ pub(crate) fn fill<D: Disk>(
     // After success, where the bytes as they are written are with an open gate a side of a table, and the other side is behind it, that
     // table is there but for its gate.
     ensures filled { OnOk result ((columns : List Column) (table : TableState) (generation len : ℕ) → IsTrue (D.told disk.old).honest → Within (D.told disk.old).images (λ c. IsShut (on side c))
-        → IsSide columns (opened (written (written (on side (D.told disk.old).bytes) at last.now) 1 header.now)) table generation len → Within (D.told disk.old).images (λ c. IsBehind generation (on (other side) c))
+        → OwnSide columns (opened (written (written (on side (D.told disk.old).bytes) at last.now) 1 header.now)) table generation len → Within (D.told disk.old).images (λ c. IsBehind generation (on (other side) c))
         → IsFilled (D.told disk.new) side columns table generation len) }
     ensures other { IsTrue (D.told disk.old).honest → OtherStays side (D.told disk.old) (D.told disk.new) }
     ensures device { Makes D.told (fill_calls side at last.now header.now) result disk.old disk.new }
@@ -176,15 +186,15 @@ pub(crate) fn switch<D: Disk>(disk: &mut D, side: Side) -> Result<(), DiskFailed
     // At each moment inside it each image reads as one that there was, or as the whole table.
     ensures any_moment { (columns : List Column) (table : TableState) (generation len : ℕ) → IsTrue (D.told disk.old).honest
         → IsFilled (D.told disk.old) side columns table generation len
-        → LeavesOnly (D.told disk.old) (D.told disk.new) (λ c. ReadsAs columns (D.told disk.old).images c ⊎ Reads columns c table generation) }
+        → LeavesOnly (D.told disk.old) (D.told disk.new) (λ c. ReadsAs columns (D.told disk.old).images c ⊎ ReadsOwn columns c table generation) }
     // After success each image reads as the table.
     ensures reads { OnOk result ((columns : List Column) (table : TableState) (generation len : ℕ) → IsTrue (D.told disk.old).honest
         → IsFilled (D.told disk.old) side columns table generation len
-        → Within (D.told disk.new).images (λ c. Reads columns c table generation)) }
+        → Within (D.told disk.new).images (λ c. ReadsOwn columns c table generation)) }
     // Whether it fails or not, with an open gate the side is the whole table in each image.
     ensures whole { (columns : List Column) (table : TableState) (generation len : ℕ) → IsTrue (D.told disk.old).honest
         → IsFilled (D.told disk.old) side columns table generation len
-        → Within (D.told disk.new).images (λ c. IsSide columns (opened (on side c)) table generation len) }
+        → Within (D.told disk.new).images (λ c. OwnSide columns (opened (on side c)) table generation len) }
     ensures bytes { OnOk result (IsTrue (D.told disk.old).honest → on side (D.told disk.new).bytes ≡ opened (on side (D.told disk.old).bytes)) }
     ensures only { OnOk result (IsTrue (D.told disk.old).honest → Within (D.told disk.new).images (λ c. on side c ≡ on side (D.told disk.new).bytes)) }
     ensures other { IsTrue (D.told disk.old).honest → OtherStays side (D.told disk.old) (D.told disk.new) }

@@ -10,7 +10,7 @@ ghost use Rattle.q4_disk.specs.Told.{Sides, Told};
 ghost use Rattle.q4_disk.specs.Images.{on, other, written, Within};
 ghost use Rattle.q4_disk.specs.Time.{LeavesOnly};
 ghost use Rattle.q4_disk.specs.Calls.{bump, CountsFault};
-ghost use Rattle.q4_store.specs.Reading.{Reads, ReadsAs};
+ghost use Rattle.q4_store.specs.Reading.{IsOutgrown, Opens, ReadsAsOpened, ReadsAsGiven};
 ghost use Rattle.q4_store.specs.Parts.{IsShut};
 ghost use Rattle.q4_store.specs.Looking.{OnlyReads, HasOpen};
 ghost use Rattle.q4_store.specs.Opening.{IsChosen, OpenFails, CountsOpen};
@@ -26,21 +26,19 @@ use crate::batch::Batch;
 use crate::committing::commit_batch;
 use crate::copying::{Progress, gather, gather_rest, header_of, none_left, put_waiting};
 use crate::fault::{AppendFault, CopyFault, OpenFault};
+use crate::holding::{END_SIZE, Held};
 use crate::limit::{BASE_AT, room};
-use crate::opening::find;
-use crate::parts::{extend_by, fill, prepare, switch};
+use crate::opening::{Found, find};
+use crate::parts::{extend_by, fill, other_of, prepare, switch};
 use q4_def::TableDef;
 use q4_disk::{Disk, DiskFailed, Side};
 use q4_table::{Origin, Table};
-use q4_value::{Column, Columns, NoMemory, Row};
+use q4_value::{Column, Columns, Row};
 use std::alloc::Global;
 use std::marker::Model;
 
 // What a batch has besides its records: a gate and their length.
 const BATCH_SIZE: u64 = 5;
-
-// The size of the record of a row's end.
-const END_SIZE: usize = 9;
 
 /// A table on a disk: it stands for the changes that were appended, and for what of them is committed.
 ///
@@ -80,34 +78,43 @@ impl<D: Disk> Model for Store<D> {
 
 impl<D: Disk> Store<D> {
     /// Opens the store of a table, and gives the table that its disk reads as, without an owner. It syncs both sides,
-    /// reads the current one, and makes a new table of generation 1 on side A where neither is open. A refusal gives
-    /// the disk back.
+    /// reads the current one, and makes a new table of generation 1 on side A where neither is open. A side whose schema
+    /// is narrower, as some columns take null now that took none, is rewritten: its table goes onto the other side, with
+    /// a generation greater by one. A refusal gives the disk back.
     pub fn open(alloc: Global, disk: D, def: &TableDef) -> Result<(Store<D>, Table), (OpenFault, D)>
         requires { AreColumns def.now.columns }
-        // What is given is what the two sides read as.
-        ensures reads { IfOk result (λ opened. IsTrue (D.told disk).honest → Reads def.now.columns (D.told disk).bytes opened.1 opened.0.generation) }
-        // Its side is the one that counts, or side A where neither is open.
-        ensures side { IfOk result (λ opened. IsTrue (D.told disk).honest → IsChosen (D.told disk).bytes opened.0.side) }
+        // What is given is what the two sides read as, with a generation greater by one where the schema is narrower.
+        ensures reads { IfOk result (λ opened. IsTrue (D.told disk).honest → Opens def.now.columns (D.told disk).bytes opened.1 opened.0.generation) }
+        // Its side is the one that counts, or the other one where the schema of that is narrower, or side A where neither is open.
+        ensures side { IfOk result (λ opened. IsTrue (D.told disk).honest → IsChosen def.now.columns (D.told disk).bytes opened.0.side) }
         ensures stands { IfOk result (λ opened. StandsFor D.told opened.0 (record { committed = opened.1; pending = [] })) }
         // Whether the gate of the other side is there and closed is known exactly.
         ensures known { IfOk result (λ opened. IsTrue (D.told disk).honest → (opened.0.known ≡ true) ↔ IsShut (on (other opened.0.side) (D.told disk).bytes)) }
         ensures fresh { IfOk result (λ opened. (opened.0.columns ≡ def.now.columns) × (opened.0.failed ≡ false) × (opened.0.records ≡ []) × (opened.0.reserved ≡ 0) × (opened.0.copy ≡ None) × (opened.1.columns ≡ def.now.columns)) }
         // Whatever the disk tells.
         ensures generation { IfOk result (λ opened. (1 ≤ opened.0.generation) × (opened.0.generation ≤ 2 ^ 62)) }
-        // At each moment inside it each image reads as one that there was.
+        // At each moment inside it each image reads as one that there was, or, where the schema of that one's current side is
+        // narrower, as its table with a generation greater by one.
         ensures any_moment { IfOk result (λ opened. IsTrue (D.told disk).honest
-            → LeavesOnly (D.told disk) (D.told opened.0.disk) (ReadsAs def.now.columns (D.told disk).images)) }
+            → LeavesOnly (D.told disk) (D.told opened.0.disk) (ReadsAsOpened def.now.columns (D.told disk).images)) }
         ensures any_moment_err { IfErr result (λ refused. IsTrue (D.told disk).honest
-            → LeavesOnly (D.told disk) (D.told refused.1) (ReadsAs def.now.columns (D.told disk).images)) }
-        // Where a side is open it writes nothing, and adds no image.
-        ensures rests { IfOk result (λ opened. IsTrue (D.told disk).honest → HasOpen (D.told disk).bytes → OnlyReads (D.told disk) (D.told opened.0.disk)) }
-        ensures rests_err { IfErr result (λ refused. IsTrue (D.told disk).honest → HasOpen (D.told disk).bytes → OnlyReads (D.told disk) (D.told refused.1)) }
+            → LeavesOnly (D.told disk) (D.told refused.1) (ReadsAsOpened def.now.columns (D.told disk).images)) }
+        // What is not as it was reads as the very table that is given.
+        ensures given { IfOk result (λ opened. IsTrue (D.told disk).honest
+            → LeavesOnly (D.told disk) (D.told opened.0.disk) (ReadsAsGiven def.now.columns opened.1 opened.0.generation (D.told disk).images)) }
+        // Where a side is open, and the schema of the current one is not narrower, it writes nothing, and adds no image.
+        ensures rests { IfOk result (λ opened. IsTrue (D.told disk).honest → HasOpen (D.told disk).bytes → (IsOutgrown def.now.columns (D.told disk).bytes → ⊥)
+            → OnlyReads (D.told disk) (D.told opened.0.disk)) }
+        ensures rests_err { IfErr result (λ refused. IsTrue (D.told disk).honest → HasOpen (D.told disk).bytes → (IsOutgrown def.now.columns (D.told disk).bytes → ⊥)
+            → OnlyReads (D.told disk) (D.told refused.1)) }
+        // Refused for any other reason than the disk, it wrote nothing, and added no image: a narrower side is as it was.
+        ensures refused { IfErr result (λ refused. refused.0 ≢ OpenFault.Disk → IsTrue (D.told disk).honest → OnlyReads (D.told disk) (D.told refused.1)) }
         // Why they read as nothing. The disk's count rises where it failed, and only there.
         ensures fails { IfErr result (λ refused. IsTrue (D.told disk).honest → OpenFails def.now.columns (D.told disk).bytes refused.0) }
         ensures calm { IfOk result (λ opened. (D.told opened.0.disk).faults ≡ (D.told disk).faults) }
         ensures faults { IfErr result (λ refused. CountsOpen refused.0 (D.told disk).faults (D.told refused.1).faults) }
-        // Its device calls, in their order: both sides are synced, their first bytes are read, and then the side that counts, or
-        // the three parts of a new table are written, of at most nine calls.
+        // Its device calls, in their order: both sides are synced, their first bytes are read, and then the side that counts is
+        // read. The three parts of a new table, or of one whose schema is narrower, are written, of at most nine calls.
         ensures device { IfOk result (λ opened. HasOpened def.now.columns D.told disk opened.0.disk) }
         ensures device_err { IfErr result (λ refused. HasStopped def.now.columns D.told refused.0 disk refused.1) }
         ensures honest { IfOk result (λ opened. (D.told opened.0.disk).honest ≡ (D.told disk).honest) }
@@ -118,51 +125,35 @@ impl<D: Disk> Store<D> {
             Ok(found) => found,
             Err(fault) => return Err((fault, disk)),
         };
-        let rows = found.table.count();
-        let Ok(memory) = hold(alloc, rows) else {
-            return Err((OpenFault::Memory, disk));
-        };
-        let Ok(columns) = def.columns.copy(alloc) else {
-            return Err((OpenFault::Memory, disk));
-        };
+        let Found {
+            table,
+            side,
+            generation,
+            end,
+            known,
+            held,
+        } = found;
+        let Held {
+            columns,
+            batch,
+            ends,
+        } = held;
         let store = Store {
             disk,
             columns,
-            side: found.side,
-            end: found.end,
-            generation: found.generation,
-            batch: memory.batch,
-            ends: memory.ends,
-            rows,
+            side,
+            end,
+            generation,
+            batch,
+            ends,
+            rows: table.count(),
             reserved: 0,
-            known: found.known,
+            known,
             failed: false,
             copy: None,
             alloc,
         };
-        Ok((store, found.table))
-    }
-}
-
-// What a store keeps memory in: the batch, and the ends that a copy of the table will want.
-#[derive(Drop)]
-struct Memory {
-    batch: Batch,
-    ends: Vec<u8>,
-}
-
-// Memory for the ends of so many rows.
-fn hold(alloc: Global, rows: u32) -> Result<Memory, NoMemory>
-    ensures records { IfOk result (λ memory. memory.batch.records ≡ []) }
-    ensures batch { IfOk result (λ memory. 9 * rows ≤ memory.batch.room) }
-    ensures ends { IfOk result (λ memory. 9 * rows ≤ vec_capacity memory.ends) }
-    ensures none { IfOk result (λ memory. memory.ends.items ≡ []) }
-{
-    let size = END_SIZE * rows as usize;
-    let batch = Batch::new(alloc, size)?;
-    match Vec::with_capacity(alloc, size) {
-        Ok(ends) => Ok(Memory { batch, ends }),
-        Err(_) => Err(NoMemory),
+        Ok((store, table))
     }
 }
 
@@ -569,16 +560,6 @@ impl<D: Disk> Store<D> {
         self.batch.clear();
         self.reserved = 0;
         Ok(self.generation)
-    }
-}
-
-// The side that isn't current.
-fn other_of(side: Side) -> Side
-    ensures { result ≡ other side }
-{
-    match side {
-        Side::A => Side::B,
-        Side::B => Side::A,
     }
 }
 

@@ -9,6 +9,7 @@ mod commits;
 mod copies;
 mod files;
 mod longest;
+mod migrations;
 mod openings;
 mod stops;
 mod twin;
@@ -79,7 +80,11 @@ fn opened_as<D: Disk>(rt: &impl Abort, alloc: Global, disk: D, text: &str) -> (S
 }
 
 fn given<D: Disk>(rt: &impl Abort, alloc: Global, disk: D) -> Given {
-    match open(rt, alloc, disk) {
+    given_as(rt, alloc, disk, "")
+}
+
+fn given_as<D: Disk>(rt: &impl Abort, alloc: Global, disk: D, text: &str) -> Given {
+    match open_as(rt, alloc, disk, text) {
         Ok((store, table)) => Ok((
             store.generation(),
             table.count(),

@@ -58,7 +58,7 @@ fn is_text(value: Option<&Value>, wanted: Option<&str>) -> bool {
 fn rows_with_nulls_are_read(rt: HostRuntime) {
     let alloc = rt.alloc();
     let read = read_side(alloc, &NULLS, columns_of(&rt, alloc, true, true));
-    let Ok((table, generation, len)) = read else {
+    let Ok((table, generation, len, false)) = read else {
         panic!(rt; "the side was not read");
     };
     // Flags count in no size: 5, 8, 0 and 12.
@@ -135,13 +135,13 @@ fn changed_sides_with_nulls(rt: HostRuntime) {
     for (changes, wanted) in CHANGED {
         let bytes = changed(&rt, alloc, &NULLS, b'2', 119, changes);
         let columns = columns_of(&rt, alloc, true, true);
-        assert_eq!(rt; read_as(alloc, &bytes, columns), wanted);
+        assert_eq!(rt; read_as(&rt, alloc, &bytes, columns, false), wanted);
     }
 }
 
 // The format's byte of the magic, bytes of the worked side that are changed, which of the columns are optional, and what
 // reading gives. The kinds stand at 23 and 29, the row's values at 58 and 66.
-const KINDS: [(u8, &[(usize, u8)], (bool, bool), Wanted); 19] = [
+const KINDS: [(u8, &[(usize, u8)], (bool, bool), Wanted); 20] = [
     // The first format has no optional column.
     (b'1', &[(23, 3)], (false, false), Err(Damaged(21))),
     (b'1', &[(23, 3)], (true, false), Err(Damaged(21))),
@@ -164,6 +164,12 @@ const KINDS: [(u8, &[(usize, u8)], (bool, bool), Wanted); 19] = [
     (b'2', &[(29, 4), (66, 1)], (false, true), Err(Damaged(49))),
     (b'2', &[(29, 4), (66, 2)], (false, true), Err(Damaged(49))),
     (b'2', &[(29, 4), (48, 18)], (false, true), Ok((1, 2, 1, 68))),
+    (
+        b'2',
+        &[(5, 0x40), (12, 0), (29, 4), (48, 18)],
+        (false, true),
+        Ok((1, 2, 1 << 62, 68)),
+    ),
 ];
 
 #[test]
@@ -172,6 +178,6 @@ fn kinds_of_columns(rt: HostRuntime) {
     for (format, changes, optional, wanted) in KINDS {
         let bytes = changed(&rt, alloc, &super::WORKED, format, 83, changes);
         let columns = columns_of(&rt, alloc, optional.0, optional.1);
-        assert_eq!(rt; read_as(alloc, &bytes, columns), wanted);
+        assert_eq!(rt; read_as(&rt, alloc, &bytes, columns, false), wanted);
     }
 }

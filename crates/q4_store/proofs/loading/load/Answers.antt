@@ -3,7 +3,7 @@ use Rattle.std.proofs.lemmas.Result.{err_from_is_err_and}
 use Rattle.q4_disk.specs.Images.{on, size}
 use Rattle.q4_store.specs.declared.fault.OpenFault.TheVariants as fault
 use Rattle.q4_store.specs.Device.{AllMade, Size, Read}
-use Rattle.q4_store.proofs.Runs.{called_ok, called_err, stops_early, load_stops}
+use Rattle.q4_store.proofs.Runs.{called_ok, called_err, stops_early, load_made, load_stops}
 use Rattle.q4_store.proofs.FirstBytes.{fails_still}
 use Rattle.q4_store.proofs.loading.load.Given as given
 use Rattle.q4_store.proofs.loading.load.Goals as goal
@@ -39,6 +39,11 @@ returns-in_err-bytes-clause-device_err g c =
       (λ h. (c.in-Ok.ensures.size h).size),
       stops_early g.D.Disk.told c.in_err-bytes.field-0.0 (Size c.args.side ∷ []) (Read c.args.side 0 c.in-Ok.size ∷ []) _ _ (λ disk. let wrong : fault.Memory ≡ fault.Disk = sym c.in_err-bytes.ensures.memory ∙ disk in absurd (cc wrong)) none,
     )
+
+pub returns-clause-device : goal.returns-clause-device
+returns-clause-device g c =
+    load_made g.D.Disk.told c.args.side (length c.deref_mut.result.now) (size c.args.side (g.D.Disk.told c.args.disk.now).bytes) (g.D.Disk.told c.args.disk.now).honest c.load_into.result _ _ _
+    (λ h. ap length c.deref_mut.ensures.value ∙ c.in_ok-bytes.ensures.size ∙ (c.in-Ok.ensures.size h).size) (sized g (goal.at.returns-clause-device g c).In-Ok) c.load_into.ensures.device
 
 pub returns-clause-device_err : goal.returns-clause-device_err
 returns-clause-device_err g c =

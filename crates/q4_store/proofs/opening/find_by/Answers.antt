@@ -1,8 +1,7 @@
 use Rattle.std.proofs.Common.{[], refl, inr, subst}
-use Rattle.std.proofs.Math.Logic.{⊎_elim}
 use Rattle.q4_store.specs.Looking.{IsChoice}
-use Rattle.q4_store.proofs.Runs.{stops_early, reads_ok, writes_ok, reads_err, writes_err}
-use Rattle.q4_store.proofs.Finding.{counts_none, unclear_fails}
+use Rattle.q4_store.proofs.Runs.{stops_reading, writes_ok}
+use Rattle.q4_store.proofs.Finding.{counts_none, unclear_fails, nothing_called, failed_reading}
 use Rattle.q4_store.proofs.opening.find_by.Goals as goal
 
 pub find_current-requires-clause-chosen : goal.find_current-requires-clause-chosen
@@ -15,29 +14,15 @@ make_new-requires-clause-chosen g c h =
     let bytes = (g.D.Disk.told c.args.disk.now).bytes in
     subst (IsChoice bytes) c.in-Ok-Neither.field-0-is (c.in-Ok-Neither.ensures.choice bytes (c.requires.head_a h) (c.requires.head_b h))
 
-pub returns-in-Err-clause-faults : goal.returns-in-Err-clause-faults
-returns-in-Err-clause-faults g c = counts_none c.in-Err.fault _ c.in-Err.ensures.no_disk
-
-pub returns-in-Err-clause-fails : goal.returns-in-Err-clause-fails
-returns-in-Err-clause-fails g c h = unclear_fails c.args.columns.now _ c.in-Err.fault (c.in-Err.ensures.unclear _ (c.requires.head_a h) (c.requires.head_b h))
-
-pub returns-in-Ok-Neither-clause-rests : goal.returns-in-Ok-Neither-clause-rests
-returns-in-Ok-Neither-clause-rests g c h some =
-    let bytes = (g.D.Disk.told c.args.disk.now).bytes in
-    let neither = subst (IsChoice bytes) c.in-Ok-Neither.field-0-is (c.in-Ok-Neither.ensures.choice bytes (c.requires.head_a h) (c.requires.head_b h)) in
-    absurd (⊎_elim neither.0 neither.1 some)
-
-pub returns-in-Ok-Current-clause-device : goal.returns-in-Ok-Current-clause-device
-returns-in-Ok-Current-clause-device g c = reads_ok g.D.Disk.told c.args.columns.now c.find_current.result _ _ c.find_current.ensures.device
-
-pub returns-in-Ok-Current-clause-device_err : goal.returns-in-Ok-Current-clause-device_err
-returns-in-Ok-Current-clause-device_err g c = reads_err g.D.Disk.told c.args.columns.now c.find_current.result _ _ c.find_current.ensures.device_err
+pub returns-in-Err-clause-none : goal.returns-in-Err-clause-none
+returns-in-Err-clause-none g c =
+    let told = g.D.Disk.told c.args.disk.now in
+    failed_reading c.args.columns.now g.D.Disk.told c.args.disk.now c.args.disk.now (nothing_called told (g.met.D.Disk.only_now c.args.disk.now)) refl c.in-Err.fault (counts_none c.in-Err.fault told.faults c.in-Err.ensures.no_disk)
+    (λ h. unclear_fails c.args.columns.now told.bytes c.in-Err.fault (c.in-Err.ensures.unclear told.bytes (c.requires.head_a h) (c.requires.head_b h)))
 
 pub returns-in-Ok-Neither-clause-device : goal.returns-in-Ok-Neither-clause-device
 returns-in-Ok-Neither-clause-device g c = writes_ok g.D.Disk.told c.args.columns.now c.make_new.result _ _ c.make_new.ensures.device
 
-pub returns-in-Ok-Neither-clause-device_err : goal.returns-in-Ok-Neither-clause-device_err
-returns-in-Ok-Neither-clause-device_err g c = writes_err g.D.Disk.told c.args.columns.now c.make_new.result _ _ c.make_new.ensures.device_err
-
 pub returns-in-Err-clause-device_err : goal.returns-in-Err-clause-device_err
-returns-in-Err-clause-device_err g c = ([], inr refl, stops_early g.D.Disk.told c.in-Err.fault [] [] c.args.disk.now c.args.disk.now c.in-Err.ensures.no_disk refl)
+returns-in-Err-clause-device_err g c =
+    stops_reading g.D.Disk.told c.args.columns.now c.in-Err.fault [] c.args.disk.now c.args.disk.now c.in-Err.ensures.no_disk (inr refl) (record { front = []; rest = []; parts = refl; made = refl })

@@ -1,9 +1,11 @@
-use Rattle.std.proofs.Common.{◌≡◌, ◌==◌, ◌+◌, ◌-◌, ◌++◌, ◌≤◌, ◌*◌, List, ℕ, [], ◌∷◌, IsTrue, true, false, Some, None, Result, Ok, Err, IfErr, OnOk, length, refl, sym, ◌∙◌, ap, subst, arith}
+use Rattle.std.proofs.Common.{◌≡◌, ◌==◌, ◌+◌, ◌-◌, ◌++◌, ◌≤◌, ◌*◌, List, ℕ, [], ◌∷◌, IsTrue, true, false, Some, None, Result, Ok, Err, IfErr, OnOk, length, refl, sym, ◌∙◌, ap, subst, inl, arith}
 use Rattle.q4_record.specs.Side.{base_at, side_limit}
 use Rattle.q4_disk.specs.Told.{Told}
 use Rattle.q4_disk.specs.Images.{other, Within}
+use Rattle.q4_disk.specs.Time.{LeavesOnly}
+use Rattle.q4_disk.proofs.Moments.{began}
 use Rattle.q4_store.specs.Looking.{header_bytes}
-use Rattle.q4_store.specs.Content.{Content, table_of}
+use Rattle.q4_store.specs.Content.{Content, table_of, IsPrefixOrNew}
 use Rattle.q4_store.specs.Copied.{without_owners, piece_bytes, rest_records}
 use Rattle.q4_store.proofs.Owners.{schema_here, rest_unowned}
 use Rattle.q4_store.specs.Store.{Stored, StandsFor, StandsUnsure, IsRest, IsUnsure, last_bytes, length_of, finished_length}
@@ -142,6 +144,14 @@ module _ (g : given.Over) where
 
 pub finish-requires-clause-content : goal.finish-requires-clause-content
 finish-requires-clause-content g c = (c.requires.content.0, c.requires.content.1, rest_given g (goal.at.finish-requires-clause-content g c).After-header_of-header c.requires.content.0 c.requires.content.2)
+
+-- where memory was wanted nothing was called
+pub returns-in_default-gather_rest-clause-any_moment : goal.returns-in_default-gather_rest-clause-any_moment
+returns-in_default-gather_rest-clause-any_moment g c content s same h =
+    let told = g.D.Disk.told in
+    let old = c.args.self.now in
+    let moments = began (told old.disk) (IsPrefixOrNew content old.generation) (IsPrefixOrNew content old.generation) h (g.met.D.Disk.only_now old.disk h) (λ d im. inl (s.images h d im)) (λ d may. may) in
+    subst (λ (disk : g.row.D.Denot). LeavesOnly (told old.disk) (told disk) (IsPrefixOrNew content old.generation)) (sym (ap (λ (store : Stored g.row.D.Denot). store.disk) c.self.view_is)) moments.only
 
 pub returns-clause-any_moment : goal.returns-clause-any_moment
 returns-clause-any_moment g c content s same = c.finish.ensures.any_moment content s (rest_given g (goal.at.returns-clause-any_moment g c).After-header_of-header content same)

@@ -1,12 +1,12 @@
 use Rattle.std.proofs.Common.{◌≡◌, ◌+◌, ◌≤◌, ◌*◌, ◌⊎◌, List, ℕ, IsTrue, false, Some, None, length, refl, sym, ◌∙◌, ap, subst, arith}
 use Rattle.q4_value.specs.declared.column.Column.{Column}
-use Rattle.q4_record.specs.Side.{side_limit, Side as IsSide}
+use Rattle.q4_record.specs.Side.{side_limit, OwnSide}
 use Rattle.q4_disk.specs.Images.{on, other, size, Within}
 use Rattle.q4_disk.specs.Time.{LeavesOnly, OtherStays}
 use Rattle.q4_disk.specs.declared.disk.Side.{Side}
 use Rattle.q4_disk.proofs.Moments.{left_now, other_then}
 use Rattle.q4_store.specs.Parts.{IsShut, IsFilled, opened}
-use Rattle.q4_store.specs.Reading.{Reads, ReadsAs}
+use Rattle.q4_store.specs.Reading.{ReadsOwn, ReadsAs}
 use Rattle.q4_store.specs.Content.{Content, IsPrefix, IsPrefixOrNew, table_of, all_committed}
 use Rattle.q4_store.specs.Store.{Stored, StandsFor, IsRest, IsUnsure, IsSettled, length_of, pending_length}
 use Rattle.q4_store.specs.Device.{DeviceCall, AllMade, BrokeOff, fill_calls, switch_calls}
@@ -84,7 +84,7 @@ module _ (g : given.Over) where
       let second = c.switch.ensures.any_moment (table_of content).columns (table_of content) (c.self.inside.generation + 1) (c.args.progress.at + length c.args.last.now) h1 f_here in
       finish_moments told _ content (here a content s) c.args.progress (copying a) (room a) (whole a) c.args.last.now c.args.header.now (rest_here a content r) (told c.fill.new.disk) (told c.switch.new.disk) h h1 (g.met.D.Disk.counts_now c.fill.new.disk)
       (fill_run (goal.at.After-switch g c).After-fill content.committed.columns h (shut a content s h))
-      (subst (λ cs. LeavesOnly (told c.fill.new.disk) (told c.switch.new.disk) (λ d. ReadsAs cs (told c.fill.new.disk).images d ⊎ Reads cs d (table_of content) (c.self.inside.generation + 1))) columns second)
+      (subst (λ cs. LeavesOnly (told c.fill.new.disk) (told c.switch.new.disk) (λ d. ReadsAs cs (told c.fill.new.disk).images d ⊎ ReadsOwn cs d (table_of content) (c.self.inside.generation + 1))) columns second)
 
   -- the same, of the store as it was given
   moments_of : (c : goal.After-truncate g) (content : Content) (new : g.row.D.Denot) → (IsTrue (g.D.Disk.told c.self.inside.disk).honest → LeavesOnly (g.D.Disk.told c.self.inside.disk) (g.D.Disk.told new) (IsPrefixOrNew content c.self.inside.generation))
@@ -181,9 +181,9 @@ returns-in_default-switch-clause-unsure g c is content s r h =
     let then_honest = c.switch.ensures.honest ∙ c.fill.ensures.honest ∙ inside_honest in
     let f = filled g (goal.at.returns-in_default-switch-clause-unsure g c).In-Ok content s r inside_honest in
     let f_here = subst (λ side. IsFilled (told c.fill.new.disk) side (table_of content).columns (table_of content) (c.self.inside.generation + 1) end) (sym c.other_of-side.ensures) f in
-    let all = subst (λ side. Within (told c.switch.new.disk).images (λ d. IsSide (table_of content).columns (opened (on side d)) (table_of content) (c.self.inside.generation + 1) end)) c.other_of-side.ensures (c.switch.ensures.whole (table_of content).columns (table_of content) (c.self.inside.generation + 1) end (c.fill.ensures.honest ∙ inside_honest) f_here) in
+    let all = subst (λ side. Within (told c.switch.new.disk).images (λ d. OwnSide (table_of content).columns (opened (on side d)) (table_of content) (c.self.inside.generation + 1) end)) c.other_of-side.ensures (c.switch.ensures.whole (table_of content).columns (table_of content) (c.self.inside.generation + 1) end (c.fill.ensures.honest ∙ inside_honest) f_here) in
     let columns = columns_are told _ content (here g a content s) c.args.progress (copying g a) (room g a) (whole g a) c.args.last.now c.args.header.now (rest_here g a content r) in
-    let whole_there = subst (λ cs. Within (told c.switch.new.disk).images (λ d. IsSide cs (opened (on (other c.self.inside.side) d)) (table_of content) (c.self.inside.generation + 1) end)) columns all in
+    let whole_there = subst (λ cs. Within (told c.switch.new.disk).images (λ d. OwnSide cs (opened (on (other c.self.inside.side) d)) (table_of content) (c.self.inside.generation + 1) end)) columns all in
     let run = switch_run g (goal.at.returns-in_default-switch-clause-unsure g c).After-switch content s r inside_honest in
     subst (λ (store : Stored g.row.D.Denot). Within (told c.switch.new.disk).images (IsUnsure content store.generation (other store.side) end)) c.self.view_is
     (λ d left. record {
