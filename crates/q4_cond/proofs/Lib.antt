@@ -16,3 +16,4 @@ pub mod Measuring
 pub mod Rereading
 pub mod Uniqueness
 pub mod Operands
+pub mod SameTrees

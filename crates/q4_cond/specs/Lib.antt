@@ -1,5 +1,6 @@
 pub mod Tokens
 pub mod Tree
+pub mod SameTree
 pub mod Grammar
 pub mod Machine
 pub mod Postfix

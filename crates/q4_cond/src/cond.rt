@@ -5,6 +5,7 @@ ghost use Rattle.q4_cond.specs.Reading.{kinds_of, IsRead, IsFault};
 ghost use Rattle.q4_cond.specs.Values.{meets};
 ghost use Rattle.q4_cond.specs.Tokens.{names_of};
 ghost use Rattle.q4_cond.specs.Shown.{condition_text};
+ghost use Rattle.q4_cond.specs.SameTree.{same_tree};
 
 use crate::CondFault;
 use crate::kinds::first_misplaced;
@@ -132,7 +133,8 @@ impl Cond {
 
     /// Whether the condition has the tree of the other. Their texts may differ in spaces and parentheses.
     pub fn has_tree_of(&self, other: &Cond) -> bool
-        ensures { Decides result (self.now.tree ≡ other.now.tree) }
+        ensures decided { Decides result (self.now.tree ≡ other.now.tree) }
+        ensures tested { result ≡ same_tree self.now.tree other.now.tree }
     {
         same_nodes(&self.nodes, &other.nodes)
     }
