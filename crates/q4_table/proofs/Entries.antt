@@ -14,7 +14,7 @@ use Rattle.std.proofs.lemmas.List.Elements.{All-nil, All-cons, All-head, All-tai
 use Rattle.q4_table.specs.declared.rows.StoredRow.{StoredRow}
 use Rattle.q4_table.specs.Adding.{number_limit}
 use Rattle.q4_table.specs.Numbered.{IsNumbered}
-use Rattle.q4_table.specs.Rows.{row_in, owned_by, with_owner, without_row, numbers_of, least_from}
+use Rattle.q4_table.specs.Rows.{row_in, owned_by, with_owner, without_row, numbers_of, rows_from, least_from}
 use Rattle.q4_table.specs.Valid.{RiseBelow}
 use Rattle.q4_table.proofs.Changes.{number, others_keep, rise-owned}
 use Rattle.q4_table.proofs.Lookup.{some_of, found_key}
@@ -152,6 +152,19 @@ from_step : (k : ℕ) (e : Entry) (es : List Entry) → IsKeyed e → numbers_of
     ≡ keys_of (cond b (e ∷ entries_between nat_cmp (Included k) Unbounded es) (entries_between nat_cmp (Included k) Unbounded es))
 from_step k e es keyed later true = ap (λ n. n ∷ numbers_of (filter (λ r. nat_le k r.number) (values_of es))) keyed ∙ ap (λ ns. e.0 ∷ ns) later
 from_step k e es keyed later false = later
+
+values_step : (k : ℕ) (e : Entry) (es fs : List Entry) (rows : List StoredRow) → values_of fs ≡ rows → (b : Bool) → values_of (cond b (e ∷ fs) fs) ≡ cond b (e.1 ∷ rows) rows
+values_step k e es fs rows later true = ap (λ rs. e.1 ∷ rs) later
+values_step k e es fs rows later false = later
+
+-- the rows from a number on are those of the entries from it on
+pub values-from : (k : ℕ) (es : List Entry) → All IsKeyed es → values_of (entries_between nat_cmp (Included k) Unbounded es) ≡ rows_from k (values_of es)
+values-from k [] keyed = refl
+values-from k (e ∷ es) keyed =
+    let fs = entries_between nat_cmp (Included k) Unbounded es in
+    let later = values-from k es (All-tail IsKeyed e es keyed) in
+    values_step k e es fs (rows_from k (values_of es)) later (is_le (nat_cmp k e.0) && not false)
+    ∙ ap (λ (b : Bool). cond b (e.1 ∷ rows_from k (values_of es)) (rows_from k (values_of es))) (from_le k e.0 ∙ ap (nat_le k) (sym (All-head IsKeyed e es keyed)))
 
 -- the numbers from one on are the keys of the entries from it on
 keys-from : (k : ℕ) (es : List Entry) → All IsKeyed es → numbers_of (filter (λ r. nat_le k r.number) (values_of es)) ≡ keys_of (entries_between nat_cmp (Included k) Unbounded es)

@@ -8,3 +8,8 @@ pub mod Looks
 pub mod MarkLaws
 pub mod Entries
 pub mod Searching
+pub mod Found
+pub mod Keeping
+pub mod Passing
+pub mod Recent
+pub mod Unowned

@@ -24,7 +24,7 @@ none_passes : (p : StoredRow → Bool) (rows : List StoredRow) → find p rows �
 none_passes p [] is = All-nil (λ (x : StoredRow). p x ≡ true → ⊥)
 none_passes p (r ∷ rows) is = none_cases p r rows (p r) refl is (none_passes p rows)
 
-all_above : (low next : ℕ) (rows : List StoredRow) → RiseBelow low next (numbers_of rows) → All (λ x. low < x.number) rows
+pub all_above : (low next : ℕ) (rows : List StoredRow) → RiseBelow low next (numbers_of rows) → All (λ x. low < x.number) rows
 all_above low next [] rise = All-nil (λ (x : StoredRow). low < x.number)
 all_above low next (r ∷ rows) rise =
     All-cons (λ (x : StoredRow). low < x.number) r rows rise.0
@@ -62,14 +62,14 @@ first_is : (p : StoredRow → Bool) (low next : ℕ) (rows : List StoredRow) (r 
 first_is p low next [] r rise is = absurd (none_some r is)
 first_is p low next (x ∷ rows) r rise is = first_cases p low next x rows r rise (p x) refl is (first_is p x.number next rows r rise.2)
 
-free_passes : (tree : Option Tree) (r : StoredRow) → IsFree tree r → is_free tree r ≡ true
+pub free_passes : (tree : Option Tree) (r : StoredRow) → IsFree tree r → is_free tree r ≡ true
 free_passes tree r free = ap (λ o. is_none o && meets r.row tree) free.unowned ∙ free.meets_it
 
 owner_cases : (owner : Option ℕ) (meeting : Bool) → (is_none owner && meeting) ≡ true → (owner ≡ None) × IsTrue meeting
 owner_cases None meeting is = (refl, is)
 owner_cases (Some session) meeting is = cc is
 
-passes_free : (tree : Option Tree) (r : StoredRow) → is_free tree r ≡ true → IsFree tree r
+pub passes_free : (tree : Option Tree) (r : StoredRow) → is_free tree r ≡ true → IsFree tree r
 passes_free tree r is =
     let both = owner_cases r.owner (meets r.row tree) is in
     record { unowned = both.0; meets_it = both.1 }

@@ -51,7 +51,7 @@ pub found_gone : {X : Type 0} (f : X → ℕ) (k : ℕ) (xs : List X) → found 
 found_gone f k [] = refl
 found_gone f k (x ∷ xs) = gone_step f k x xs (f x == k) refl (found_gone f k xs)
 
-or_none : {X : Type 0} (o : Option X) → option_or o None ≡ o
+pub or_none : {X : Type 0} (o : Option X) → option_or o None ≡ o
 or_none None = refl
 or_none (Some x) = refl
 

@@ -5,7 +5,7 @@ use Rattle.std.proofs.lemmas.Bool.{eq-eqb, ne_eqb, eqb-true, lt-ltb, le-ltb, cas
 use Rattle.std.proofs.lemmas.List.Folds.{find-append}
 use Rattle.q4_table.specs.declared.marks.Mark.{Mark}
 use Rattle.q4_table.specs.Marks.{mark_of, with_mark}
-use Rattle.q4_table.proofs.Lookup.{found}
+use Rattle.q4_table.proofs.Lookup.{found, or_none}
 use Rattle.q4_table.proofs.Marking.{source, lesser, greater}
 
 kept_step : {X : Type 0} (key : X → ℕ) (p : X → Bool) (k : ℕ) (x : X) (xs : List X) (here passes : Bool) → (key x == k) ≡ here → p x ≡ passes → (here ≡ true → passes ≡ true) → found key k (filter p xs) ≡ found key k xs
@@ -43,10 +43,6 @@ mark-set marks s n =
     let front = found_lost source (lesser s) s marks (λ m is. le-ltb m.source s (omega (arith, is))) in
     ap number_of (parted s n s marks ∙ (ap (λ o. option_or o (cond (s == s) (Some set) (found source s (filter (greater s) marks)))) front
     ∙ ap (λ (b : Bool). cond b (Some set) (found source s (filter (greater s) marks))) (eq-eqb s s refl)))
-
-or_none : {X : Type 0} (o : Option X) → option_or o None ≡ o
-or_none None = refl
-or_none (Some x) = refl
 
 pub mark-others : (marks : List Mark) (s t n : ℕ) → t ≢ s → mark_of (with_mark s n marks) t ≡ mark_of marks t
 mark-others marks s t n other =

@@ -1,5 +1,5 @@
 -- Marks by rising source, and what setting one does.
-use Rattle.std.proofs.Common.{◌≡◌, ◌≢◌, ◌<◌, ◌≤◌, ◌∷◌, ◌++◌, ◌∙◌, [], List, ℕ, zero, suc, Bool, true, false, cond, All, filter, length, set, get_or, refl, sym, ap, arith}
+use Rattle.std.proofs.Common.{◌≡◌, ◌≢◌, ◌<◌, ◌≤◌, ◌∷◌, ◌++◌, ◌∙◌, [], List, ℕ, zero, suc, Bool, true, false, cond, All, filter, length, set, get_or, refl, sym, ap, arith, is_ok, is_err}
 use Rattle.std.specs.List.{insert}
 use Rattle.std.specs.Prelude.{Result, Ok, Err, OnOk, OnErr, is_err}
 use Rattle.std.specs.List.Sorted.{IsNonDecreasingBy}
@@ -127,3 +127,11 @@ on_err (Err e) is p = p
 pub on_ok : {A B P : Type 0} (r : Result A B) → is_err r ≡ false → OnOk r P → P
 on_ok (Ok x) is p = p
 on_ok (Err e) is p = cc is
+
+pub is_ok_of : {A B : Type 0} (r : Result A B) → is_err r ≡ false → is_ok r ≡ true
+is_ok_of (Ok x) is = refl
+is_ok_of (Err e) is = cc is
+
+pub on_err_of : {A B P : Type 0} (r : Result A B) → P → OnErr r P
+on_err_of (Ok x) p = tt
+on_err_of (Err e) p = p

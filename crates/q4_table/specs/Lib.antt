@@ -4,6 +4,9 @@ pub mod Marks
 pub mod Adding
 pub mod Valid
 pub mod Oldest
+pub mod Cursors
+pub mod Passed
+pub mod Owners
 pub mod Place
 pub mod Numbered
 pub mod Searching

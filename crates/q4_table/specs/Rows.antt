@@ -47,9 +47,13 @@ least (n ∷ ns) = Some (option_map_or (min n) (least ns) n)
 abbrev pub numbers_of : List StoredRow → List ℕ
 numbers_of rows = map (λ r. r.number) rows
 
+-- the rows from a number on
+abbrev pub rows_from : ℕ → List StoredRow → List StoredRow
+rows_from number rows = filter (λ r. nat_le number r.number) rows
+
 -- the least row number that is at least this one
 abbrev pub least_from : List StoredRow → ℕ → Option ℕ
-least_from rows number = least (numbers_of (filter (λ r. nat_le number r.number) rows))
+least_from rows number = least (numbers_of (rows_from number rows))
 
 -- the sum of the rows' sizes
 abbrev pub bytes_of : List StoredRow → ℕ

@@ -2,6 +2,7 @@
 #![tactic(auto)]
 
 mod adding;
+mod cursors;
 mod laws;
 mod marks;
 mod origin;
@@ -9,7 +10,10 @@ mod rows;
 mod table;
 
 pub use adding::{AddFault, Added, Check};
-pub use laws::{changes_keep_tables_valid, marks_are_set, oldest_is_taken};
+pub use laws::{
+    changes_keep_tables_valid, conditions_stay_kept, marks_are_set, oldest_is_taken,
+    owners_make_no_difference,
+};
 pub use marks::Mark;
 pub use origin::{Mode, Origin};
 pub use rows::StoredRow;

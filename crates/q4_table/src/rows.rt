@@ -1,10 +1,9 @@
 ghost use Rattle.std.specs.Prelude.{◌≡◌, ◌<◌, ◌+◌, [], ◌∷◌, ◌++◌, length, find, IfOk, IfErr, OnOk, OnErr};
 ghost use Rattle.std.specs.Option.{option_copied, option_map};
-ghost use Rattle.std.specs.BTreeMap.{values};
 ghost use Rattle.q4_table.specs.Adding.{number_limit};
-ghost use Rattle.q4_table.specs.Rows.{row_in, IsThere, with_owner, without_row, numbers_of, least_from as least_of};
+ghost use Rattle.q4_table.specs.Rows.{row_in, IsThere, with_owner, without_row, numbers_of, rows_from, least_from as least_of};
 ghost use Rattle.q4_table.specs.Oldest.{is_free, oldest_meeting, IsAsked};
-ghost use Rattle.q4_table.specs.Searching.{asked};
+ghost use Rattle.q4_table.specs.Searching.{asked, values_from};
 ghost use Rattle.q4_table.specs.Valid.{RiseBelow};
 
 use q4_cond::{Cond, Steps, met};
@@ -85,12 +84,12 @@ impl Rows {
         Some(*least)
     }
 
-    /// The number of the oldest row that nobody owns and that meets the condition.
-    pub fn oldest<L: Ledger>(&self, cond: &Cond, steps: &mut Steps<L>) -> Option<u64>
-        ensures oldest { result ≡ oldest_meeting self.now cond.now.tree }
-        ensures asked { IsAsked self.now 1 result steps.old steps.new }
+    /// The number of the oldest row from a number on that nobody owns and that meets the condition.
+    pub fn oldest<L: Ledger>(&self, from: u64, cond: &Cond, steps: &mut Steps<L>) -> Option<u64>
+        ensures oldest { result ≡ oldest_meeting (rows_from from self.now) cond.now.tree }
+        ensures asked { IsAsked self.now from result steps.old steps.new }
     {
-        first_free(&self.rows, cond, steps)
+        first_free(&self.rows, from, cond, steps)
     }
 
     /// Puts a row behind the others, whose numbers are lesser. A refusal gives it back.
@@ -142,16 +141,18 @@ impl Rows {
     }
 }
 
-// The number of the first row that nobody owns and that meets the condition. Those before it are asked once each.
+// The number of the first row from a number on that nobody owns and that meets the condition. Those before it are asked
+// once each.
 fn first_free<L: Ledger>(
     rows: &BTreeMap<u64, StoredRow>,
+    from: u64,
     cond: &Cond,
     steps: &mut Steps<L>,
 ) -> Option<u64>
-    ensures found { result ≡ option_map (λ r. r.number) (find (is_free cond.now.tree) (values rows.now)) }
-    ensures asked { steps.new ≡ steps.old + asked cond.now.tree (values rows.now) }
+    ensures found { result ≡ option_map (λ r. r.number) (find (is_free cond.now.tree) (values_from from rows.now.entries)) }
+    ensures asked { steps.new ≡ steps.old + asked cond.now.tree (values_from from rows.now.entries) }
 {
-    for stored in rows.values() {
+    for (_, stored) in rows.range(from..) {
         if stored.owner.is_some() {
             continue;
         }

@@ -1,11 +1,12 @@
 ghost use Rattle.std.specs.Prelude.{◌≡◌, ◌≤◌, length};
 ghost use Rattle.std.specs.Option.{ForSome};
 ghost use Rattle.q4_value.specs.Row.{Fits};
+ghost use Rattle.q4_cond.specs.Reading.{kinds_of};
 ghost use Rattle.q4_table.specs.Adding.{IsOrigin};
 ghost use Rattle.q4_table.specs.Valid.{IsColumns};
 
 use super::*;
-use q4_cond::{cond_steps, read};
+use q4_cond::{Cond, cond_steps, read};
 use q4_value::{Column, Columns, Kind, Row, Value, Words, fits};
 use std::alloc::Global;
 use std::process::Abort;
@@ -40,7 +41,7 @@ fn jobs(rt: &impl Abort, alloc: Global) -> Table {
 
 // The row, which has to fit the table.
 fn fitting(rt: &impl Abort, table: &Table, row: Row) -> Row
-    ensures { Fits table.now.columns result }
+    ensures { Fits table.now.state.columns result }
 {
     tables_are_valid(table);
     match fits(table.columns(), &row) {
@@ -50,7 +51,7 @@ fn fitting(rt: &impl Abort, table: &Table, row: Row) -> Row
 }
 
 fn job(rt: &impl Abort, alloc: Global, table: &Table, prio: i64, body: &str) -> Row
-    ensures { Fits table.now.columns result }
+    ensures { Fits table.now.state.columns result }
 {
     let mut row = Row::new(alloc);
     let body = Words::new(alloc, body).expect(rt, "memory");
@@ -69,9 +70,9 @@ fn valid(rt: &impl Abort, origin: Origin) -> Origin
 
 // Adds the row, and has to get what was foretold.
 fn add(rt: &impl Abort, table: &mut Table, row: Row, origin: Option<Origin>, wanted: Check)
-    requires row { Fits table.old.columns row }
+    requires row { Fits table.old.state.columns row }
     requires origin { ForSome origin IsOrigin }
-    ensures { table.new.columns ≡ table.old.columns }
+    ensures { table.new.state.columns ≡ table.old.state.columns }
 {
     assert_eq!(rt; table.check(&row, origin), wanted);
     let size = row.len();
@@ -88,12 +89,25 @@ fn add(rt: &impl Abort, table: &mut Table, row: Row, origin: Option<Origin>, wan
     }
 }
 
-// The oldest free row that meets the condition.
-fn oldest(rt: &impl Abort, alloc: Global, table: &Table, text: &str) -> Option<u64> {
+// The condition of this text on the table's rows.
+fn condition(rt: &impl Abort, alloc: Global, table: &Table, text: &str) -> Cond
+    ensures { result.kinds ≡ kinds_of table.now.state.columns }
+{
     match read(alloc, text, table.columns()) {
-        Ok(cond) => table.oldest(&cond, &mut cond_steps()),
+        Ok(cond) => cond,
         Err(_) => panic!(rt; "no condition"),
     }
+}
+
+// The oldest free row that meets the condition.
+fn oldest(rt: &impl Abort, alloc: Global, table: &mut Table, text: &str) -> Option<u64> {
+    let cond = condition(rt, alloc, table, text);
+    table.oldest(&cond, &mut cond_steps())
+}
+
+fn keep(rt: &impl Abort, alloc: Global, table: &mut Table, text: &str) {
+    let cond = condition(rt, alloc, table, text);
+    assert!(rt; table.keep(&cond).is_ok());
 }
 
 fn own(rt: &impl Abort, table: &mut Table, number: u64, session: u64) {
@@ -142,6 +156,10 @@ enum Step {
     SetNext(u64),
     // A condition, and the oldest free row that meets it.
     Oldest(&'static str, Option<u64>),
+    // A condition that is kept.
+    Keep(&'static str),
+    // A condition, and whether it is kept.
+    Kept(&'static str, bool),
     // A number, and the least row number from it on.
     Live(u64, Option<u64>),
     // A row's number, its first value, and its owner.
@@ -194,17 +212,22 @@ fn change(rt: &impl Abort, alloc: Global, table: &mut Table, step: Step) {
         Step::End(number) => end(rt, table, number),
         Step::SetMark(source, number) => set_mark(rt, table, source, number),
         Step::SetNext(number) => set_next(rt, table, number),
+        Step::Keep(text) => keep(rt, alloc, table, text),
         _ => {}
     }
 }
 
-fn look(rt: &impl Abort, alloc: Global, table: &Table, step: Step) {
+fn look(rt: &impl Abort, alloc: Global, table: &mut Table, step: Step) {
     match step {
         Step::From(source, _, _, _, wanted) | Step::Mark(source, wanted) => {
             assert_eq!(rt; mark(rt, table, source), wanted, "{source}");
         }
         Step::Oldest(text, wanted) => {
             assert_eq!(rt; oldest(rt, alloc, table, text), wanted, "{text}");
+        }
+        Step::Kept(text, wanted) => {
+            let cond = condition(rt, alloc, table, text);
+            assert_eq!(rt; table.kept(&cond), wanted, "{text}");
         }
         Step::Live(number, wanted) => {
             assert_eq!(rt; table.live_from(number), wanted, "{number}");
@@ -257,6 +280,135 @@ fn looks_take_the_oldest_row_that_meets_the_condition(rt: HostRuntime) -> Result
         Oldest("prio>=5", Some(3)),
     ];
     follow(&rt, rt.alloc(), &mut jobs(&rt, rt.alloc()), &steps);
+    Ok(())
+}
+
+#[test]
+fn a_kept_condition_is_found_where_its_cursor_stands(rt: HostRuntime) -> Result<(), Fail> {
+    let alloc = rt.alloc();
+    let mut table = jobs(&rt, alloc);
+    for _ in 0..1_000 {
+        change(&rt, alloc, &mut table, Add(0, ""));
+    }
+    let steps = [
+        Kept("prio>=5", false),
+        Keep("prio>=5"),
+        // Texts of one tree are one condition.
+        Kept(" (prio >= 5)", true),
+        Kept("prio>5", false),
+        Oldest("prio>=5", None),
+        Oldest("prio>=5", None),
+        Add(9, ""),
+        Oldest("prio>=5", Some(1_001)),
+        Own(1_001, 1),
+        Oldest("prio>=5", None),
+        Release(1_001),
+        Oldest("prio>=5", Some(1_001)),
+        Oldest("", Some(1)),
+        End(1_001),
+        Oldest("prio>=5", None),
+        Add(5, ""),
+        Oldest("prio>=5", Some(1_002)),
+    ];
+    follow(&rt, alloc, &mut table, &steps);
+    Ok(())
+}
+
+#[test]
+fn rows_that_are_given_back_are_found_again(rt: HostRuntime) -> Result<(), Fail> {
+    let steps = [
+        Add(9, "a"),
+        Add(9, "b"),
+        Add(1, "c"),
+        Keep("prio>=5"),
+        Keep(""),
+        Oldest("prio>=5", Some(1)),
+        Own(1, 7),
+        Oldest("prio>=5", Some(2)),
+        Own(2, 8),
+        Oldest("prio>=5", None),
+        Oldest("", Some(3)),
+        Release(2),
+        Oldest("", Some(2)),
+        Oldest("prio>=5", Some(2)),
+        Release(1),
+        Oldest("prio>=5", Some(1)),
+        Oldest("", Some(1)),
+        // A condition that is kept again stays at its cursor, and one that is not kept begins at the front.
+        Own(1, 7),
+        Own(2, 8),
+        Oldest("prio>=5", None),
+        Keep("prio>=5"),
+        Oldest("prio>=5", None),
+        Oldest("prio>8", None),
+        Release(1),
+        Oldest("prio>8", Some(1)),
+        Oldest("prio>=5", Some(1)),
+    ];
+    let mut table = jobs(&rt, rt.alloc());
+    follow(&rt, rt.alloc(), &mut table, &steps);
+    // A copy keeps what the table keeps, and apart from it.
+    let Ok(mut copy) = table.copy(rt.alloc()) else {
+        panic!(&rt; "memory");
+    };
+    let more = [
+        Kept("prio>=5", true),
+        Kept("prio>8", false),
+        Own(1, 9),
+        Oldest("prio>=5", None),
+    ];
+    follow(&rt, rt.alloc(), &mut copy, &more);
+    follow(&rt, rt.alloc(), &mut table, &[Oldest("prio>=5", Some(1))]);
+    Ok(())
+}
+
+// The condition `prio=n`, for an n of two digits.
+fn numbered(rt: &impl Abort, alloc: Global, table: &Table, n: u8) -> Cond
+    ensures { result.kinds ≡ kinds_of table.now.state.columns }
+{
+    let mut text = String::new(alloc);
+    for part in ["prio=1", digit(n / 10), digit(n % 10)] {
+        assert!(rt; text.push_str(part).is_ok());
+    }
+    condition(rt, alloc, table, text.as_str())
+}
+
+fn digit(n: u8) -> &'static str {
+    match n {
+        0 => "0",
+        1 => "1",
+        2 => "2",
+        3 => "3",
+        4 => "4",
+        5 => "5",
+        6 => "6",
+        7 => "7",
+        8 => "8",
+        _ => "9",
+    }
+}
+
+#[test]
+fn of_65_conditions_the_one_kept_longest_ago_goes(rt: HostRuntime) -> Result<(), Fail> {
+    let alloc = rt.alloc();
+    let mut table = jobs(&rt, alloc);
+    for n in 0..64 {
+        let cond = numbered(&rt, alloc, &table, n);
+        assert!(rt; table.keep(&cond).is_ok());
+    }
+    for n in 0..64 {
+        let cond = numbered(&rt, alloc, &table, n);
+        assert!(rt; table.kept(&cond), "{n}");
+    }
+    // The first is kept again, so the second goes.
+    for n in [0, 64] {
+        let cond = numbered(&rt, alloc, &table, n);
+        assert!(rt; table.keep(&cond).is_ok());
+    }
+    for (n, wanted) in [(0, true), (1, false), (2, true), (63, true), (64, true)] {
+        let cond = numbered(&rt, alloc, &table, n);
+        assert_eq!(rt; table.kept(&cond), wanted, "{n}");
+    }
     Ok(())
 }
 
@@ -343,7 +495,7 @@ fn marks_tell_what_was_seen(rt: HostRuntime) -> Result<(), Fail> {
 
 // The row of a number or of null, which has to fit the table.
 fn number_row(rt: &impl Abort, alloc: Global, table: &Table, value: Value) -> Row
-    ensures { Fits table.now.columns result }
+    ensures { Fits table.now.state.columns result }
 {
     let mut row = Row::new(alloc);
     assert!(rt; row.push(value).is_ok());
