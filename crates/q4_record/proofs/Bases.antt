@@ -6,11 +6,10 @@ use Rattle.q4_value.specs.declared.column.Column.{Column}
 use Rattle.q4_value.specs.Row.{AreWider}
 use Rattle.q4_table.specs.TableState.{TableState, new_table}
 use Rattle.q4_record.specs.declared.header.Format.{Format}
-use Rattle.q4_record.specs.declared.replay.Replay.{Replay}
 use Rattle.q4_record.specs.declared.replay.Stage.TheVariants as stage
 use Rattle.q4_record.specs.declared.side.SideFault.{SideFault}
 use Rattle.q4_record.specs.declared.side.SideFault.TheVariants as fault
-use Rattle.q4_record.specs.Replay.{replays, at_base, AllStand}
+use Rattle.q4_record.specs.Replay.{ReplayState, replays, at_base, AllStand}
 use Rattle.q4_record.specs.Reading.{SectionFails}
 use Rattle.q4_record.specs.Schema.{schema_bytes, MayHave}
 use Rattle.q4_record.specs.Side.{base_at}
@@ -42,10 +41,10 @@ schema_failed format columns base (fault.Large n) fails = absurd fails
 schema_failed format columns base fault.Memory fails = tt
 
 -- the records do, and the last is no next record
-pub unfinished : (format : Format) (columns own : List Column) (base section : List ℕ) (table : TableState) (new : Replay) → AreWider columns own → All (MayHave format) own → base ≡ schema_bytes own ++ section → table ≡ new_table own
+pub unfinished : (format : Format) (columns own : List Column) (base section : List ℕ) (table : TableState) (new : ReplayState) → AreWider columns own → All (MayHave format) own → base ≡ schema_bytes own ++ section → table ≡ new_table own
     → SectionStood (record { stage = stage.Rows; table = table }) section new → new.stage ≢ stage.Whole → BaseFailed format columns base (fault.Damaged (base_at + length base))
 unfinished format columns own base section table new w may e is s other =
-    let starts : Replay = record { stage = stage.Rows; table = table } in
+    let starts : ReplayState = record { stage = stage.Rows; table = table } in
     let from : starts ≡ at_base own = ap (λ (t : TableState). record { stage = stage.Rows; table = t }) is in
     inr (
       own,
@@ -55,16 +54,16 @@ unfinished format columns own base section table new w may e is s other =
         records = s.records;
         base_is = e ∙ ap (λ bs. schema_bytes own ++ bs) s.bytes_are;
         stand = subst (λ q. AllStand q s.records) from s.stand;
-        unfinished = λ whole. other (ap (λ (q : Replay). q.stage) (s.new_is ∙ ap (λ q. replays q s.records) from) ∙ whole);
+        unfinished = λ whole. other (ap (λ (q : ReplayState). q.stage) (s.new_is ∙ ap (λ q. replays q s.records) from) ∙ whole);
         why_is = refl;
       }),
     )
 
 -- all of it stands
-pub base_read : (format : Format) (columns own : List Column) (base section : List ℕ) (table : TableState) (new : Replay) (wider : Option (List Column)) → AreWider columns own → GivenWider columns own wider → All (MayHave format) own → base ≡ schema_bytes own ++ section → table ≡ new_table own
+pub base_read : (format : Format) (columns own : List Column) (base section : List ℕ) (table : TableState) (new : ReplayState) (wider : Option (List Column)) → AreWider columns own → GivenWider columns own wider → All (MayHave format) own → base ≡ schema_bytes own ++ section → table ≡ new_table own
     → SectionStood (record { stage = stage.Rows; table = table }) section new → new.stage ≡ stage.Whole → BaseRead format columns base new.table wider
 base_read format columns own base section table new wider w given may e is s whole =
-    let starts : Replay = record { stage = stage.Rows; table = table } in
+    let starts : ReplayState = record { stage = stage.Rows; table = table } in
     let from : starts ≡ at_base own = ap (λ (t : TableState). record { stage = stage.Rows; table = t }) is in
     let new_is : new ≡ replays (at_base own) s.records = s.new_is ∙ ap (λ q. replays q s.records) from in
     record {

@@ -23,12 +23,11 @@ use Rattle.q4_table.proofs.Validity.{valid-added, valid-marked, valid-next, vali
 use Rattle.q4_record.specs.declared.head.Head.{Head}
 use Rattle.q4_record.specs.declared.head.Head.TheVariants.{Insert, End, Mark, Next}
 use Rattle.q4_record.specs.declared.header.Format.{Format}
-use Rattle.q4_record.specs.declared.replay.Replay.{Replay}
 use Rattle.q4_record.specs.declared.replay.Stage.{Stage}
 use Rattle.q4_record.specs.declared.replay.Stage.TheVariants as stage
 use Rattle.q4_record.specs.Wide.{IsWideRow}
 use Rattle.q4_record.specs.Record.{Record, row_columns}
-use Rattle.q4_record.specs.Replay.{MayInsert, MayMark, MayNext, MayCome, table_after, replayed, replays, at_base, at_batches, passed_limit, AllStand}
+use Rattle.q4_record.specs.Replay.{ReplayState, MayInsert, MayMark, MayNext, MayCome, table_after, replayed, replays, at_base, at_batches, passed_limit, AllStand}
 use Rattle.q4_record.specs.Side.{format_of, base_of, IsBase, BatchesStand, after_batches, OwnSide, Side}
 use Rattle.q4_record.specs.Written.{IsSound}
 use Rattle.q4_record.proofs.Cuts.{short_row}
@@ -111,11 +110,11 @@ sound_step columns s table (Next number) row sound wide may passed =
     let w = within (table_after table (Next number) row) row passed in
     record { columns_are = sound.columns_are; valid = valid-next table number sound.valid (next_from s table number may) w.next; unowned = sound.unowned }
 
-sound_records : (columns : List Column) (replay : Replay) (rs : List Record) → IsSound columns replay.table → AllStand replay rs → IsSound columns (replays replay rs).table
+sound_records : (columns : List Column) (replay : ReplayState) (rs : List Record) → IsSound columns replay.table → AllStand replay rs → IsSound columns (replays replay rs).table
 sound_records columns replay [] sound all = sound
 sound_records columns replay (r ∷ rs) sound all = sound_records columns (replayed replay r) rs (sound_step columns replay.stage replay.table r.head r.row sound all.0.is.row all.0.may all.0.within) all.1
 
-sound_batches : (columns : List Column) (replay : Replay) (bs : List (List Record)) → IsSound columns replay.table → BatchesStand replay bs → IsSound columns (after_batches replay bs).table
+sound_batches : (columns : List Column) (replay : ReplayState) (bs : List (List Record)) → IsSound columns replay.table → BatchesStand replay bs → IsSound columns (after_batches replay bs).table
 sound_batches columns replay [] sound all = sound
 sound_batches columns replay (b ∷ bs) sound all = sound_batches columns (replays replay b) bs (sound_records columns replay b sound all.0) all.1
 
@@ -136,7 +135,7 @@ sound_new columns is = record {
 }
 
 sound_base : (format : Format) (columns : List Column) (base : List ℕ) (table : TableState) → IsColumns columns → IsBase format columns base table → IsSound columns table
-sound_base format columns base table is b = subst (λ (replay : Replay). IsSound columns replay.table) b.replay_is (sound_records columns (at_base columns) b.records (sound_new columns is) b.stand)
+sound_base format columns base table is b = subst (λ (replay : ReplayState). IsSound columns replay.table) b.replay_is (sound_records columns (at_base columns) b.records (sound_new columns is) b.stand)
 
 -- a side of its own columns stands for a valid table of these
 pub sound_own : (columns : List Column) (bytes : List ℕ) (table : TableState) (generation len : ℕ) → IsColumns columns → OwnSide columns bytes table generation len → IsSound columns table
@@ -144,7 +143,7 @@ sound_own columns bytes table generation len is side =
     let w = side.stands in
     let r = w.reaches in
     let sound = sound_batches columns (at_batches r.base_table) w.batches (sound_base (format_of bytes) columns (base_of bytes) r.base_table is r.base) r.stand in
-    subst (IsSound columns) (ap (λ (replay : Replay). replay.table) (sym r.replay_is) ∙ sym w.table_is) sound
+    subst (IsSound columns) (ap (λ (replay : ReplayState). replay.table) (sym r.replay_is) ∙ sym w.table_is) sound
 
 -- and any side for one of the columns given
 pub sound_side : (columns : List Column) (bytes : List ℕ) (table : TableState) (generation len : ℕ) → IsColumns columns → Side columns bytes table generation len → IsSound columns table

@@ -7,11 +7,10 @@ use Rattle.q4_value.specs.Row.{IsWider, AreWider}
 use Rattle.q4_value.proofs.Wider.{length-wider, wider_apart, names-narrower}
 use Rattle.q4_table.specs.TableState.{TableState}
 use Rattle.q4_record.specs.declared.header.Format.{Format}
-use Rattle.q4_record.specs.declared.replay.Replay.{Replay}
 use Rattle.q4_record.specs.declared.side.SideFault.{SideFault}
 use Rattle.q4_record.specs.declared.side.SideFault.TheVariants as fault
 use Rattle.q4_record.specs.Record.{Record, records_bytes}
-use Rattle.q4_record.specs.Replay.{replays, at_base, AllStand}
+use Rattle.q4_record.specs.Replay.{ReplayState, replays, at_base, AllStand}
 use Rattle.q4_record.specs.Reading.{SectionFails}
 use Rattle.q4_record.specs.Schema.{schema_bytes, MayHave, IsSchema, DifferFirst, DifferAt, SchemaFails}
 use Rattle.q4_record.specs.Side.{base_at, IsBase}
@@ -109,14 +108,14 @@ base_records columns base rs ss a b e f = section_once (at_base columns) rs ss a
 pub base_once : (format : Format) (columns : List Column) (base : List ℕ) (one other : TableState) → IsBase format columns base one → IsBase format columns base other → one ≡ other
 base_once format columns base one other b d =
     let same = base_records columns base b.records d.records b.stand d.stand b.base_is d.base_is in
-    ap (λ (replay : Replay). replay.table) (sym b.replay_is ∙ ap (replays (at_base columns)) same ∙ d.replay_is)
+    ap (λ (replay : ReplayState). replay.table) (sym b.replay_is ∙ ap (replays (at_base columns)) same ∙ d.replay_is)
 
 -- where the base stands it does not fail
 pub base_stands : (format : Format) (columns : List Column) (base : List ℕ) (table : TableState) (why : SideFault) → IsBase format columns base table → BaseFails format columns base why → ⊥
 base_stands format columns base table why b (inl records) = records_not format columns base b.records why b.stand b.base_is records
 base_stands format columns base table why b (inr u) =
     let same = base_records columns base b.records u.records b.stand u.stand b.base_is u.base_is in
-    u.unfinished (ap (λ (replay : Replay). replay.stage) (ap (replays (at_base columns)) (sym same) ∙ b.replay_is))
+    u.unfinished (ap (λ (replay : ReplayState). replay.stage) (ap (replays (at_base columns)) (sym same) ∙ b.replay_is))
 
 pub base_fails_once : (format : Format) (columns : List Column) (base : List ℕ) (why way : SideFault) → BaseFails format columns base why → BaseFails format columns base way → why ≡ way
 base_fails_once format columns base why way (inl f) (inl g) =

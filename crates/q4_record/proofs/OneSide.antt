@@ -8,12 +8,12 @@ use Rattle.q4_value.specs.declared.column.Column.{Column}
 use Rattle.q4_value.specs.Reading.{told_length}
 use Rattle.q4_value.specs.Row.{AreWider}
 use Rattle.q4_value.proofs.Rows.{append_same}
+use Rattle.q4_table.specs.Cursors.{TableView}
 use Rattle.q4_table.specs.TableState.{TableState}
-use Rattle.q4_record.specs.declared.replay.Replay.{Replay}
 use Rattle.q4_record.specs.declared.side.SideFault.{SideFault}
 use Rattle.q4_record.specs.declared.side.SideFault.TheVariants as fault
 use Rattle.q4_record.specs.Record.{Record, records_bytes}
-use Rattle.q4_record.specs.Replay.{replays, at_batches, AllStand}
+use Rattle.q4_record.specs.Replay.{ReplayState, replays, at_batches, AllStand}
 use Rattle.q4_record.specs.Reading.{SectionFails}
 use Rattle.q4_record.specs.Schema.{IsSchema, SchemaFails}
 use Rattle.q4_record.specs.Side.{side_limit, generation_limit, base_at, base_length_of, base_of, format_of, IsOpen, Begins, batch_bytes, batches_bytes, BatchesStand, after_batches, Reaches, place_behind, IsWhole, HasRoom, OwnSide, Side}
@@ -32,7 +32,7 @@ parts_once one other x y one_fits other_fits e =
     append_same one other x y (same_length (length one) (length other) one_fits other_fits apart.0) apart.1
 
 -- a further batch stands at the front of the rest
-pub record BatchAhead (replay : Replay) (rest : List ℕ) : Type 0 where
+pub record BatchAhead (replay : ReplayState) (rest : List ℕ) : Type 0 where
   pub batch : List Record
   pub after : List ℕ
   pub stand : AllStand replay batch
@@ -51,7 +51,7 @@ behind_few b bs x le =
 some_behind : (bs : List (List Record)) (x : List ℕ) → 1 ≤ length x → 1 ≤ length (batches_bytes bs ++ x)
 some_behind bs x le = omega (arith, le, length-append (batches_bytes bs) x)
 
-ahead_of : (replay : Replay) (b : List Record) (bs : List (List Record)) (x rest : List ℕ) → AllStand replay b → length (batches_bytes (b ∷ bs) ++ x) ≤ side_limit → 1 ≤ length x → rest ≡ batches_bytes (b ∷ bs) ++ x → BatchAhead replay rest
+ahead_of : (replay : ReplayState) (b : List Record) (bs : List (List Record)) (x rest : List ℕ) → AllStand replay b → length (batches_bytes (b ∷ bs) ++ x) ≤ side_limit → 1 ≤ length x → rest ≡ batches_bytes (b ∷ bs) ++ x → BatchAhead replay rest
 ahead_of replay b bs x rest all few left e = record {
   batch = b;
   after = batches_bytes bs ++ x;
@@ -62,7 +62,7 @@ ahead_of replay b bs x rest all few left e = record {
 }
 
 -- of two lists of batches that stand at the front one goes on behind the other, or they are the same
-batches_compare : (replay : Replay) (bs cs : List (List Record)) (x y : List ℕ) → BatchesStand replay bs → BatchesStand replay cs → 1 ≤ length x → 1 ≤ length y → length (batches_bytes bs ++ x) ≤ side_limit → batches_bytes bs ++ x ≡ batches_bytes cs ++ y
+batches_compare : (replay : ReplayState) (bs cs : List (List Record)) (x y : List ℕ) → BatchesStand replay bs → BatchesStand replay cs → 1 ≤ length x → 1 ≤ length y → length (batches_bytes bs ++ x) ≤ side_limit → batches_bytes bs ++ x ≡ batches_bytes cs ++ y
     → ((bs ≡ cs) × (x ≡ y)) ⊎ BatchAhead (after_batches replay bs) x ⊎ BatchAhead (after_batches replay cs) y
 batches_compare replay [] [] x y a d left also few e = inl (refl, e)
 batches_compare replay [] (c ∷ cs) x y a d left also few e = inr (inl (ahead_of replay c cs y x d.0 (subst (λ bs. length bs ≤ side_limit) e few) also e))
@@ -78,7 +78,7 @@ batches_compare replay (b ∷ bs) (c ∷ cs) x y a d left also few e =
     ]
 
 -- where a batch stands there is no closing gate, and no batch fails
-closed_not : (replay : Replay) (closing : ℕ) (ignored : List ℕ) → closing ≢ 1 → BatchAhead replay (closing ∷ ignored) → ⊥
+closed_not : (replay : ReplayState) (closing : ℕ) (ignored : List ℕ) → closing ≢ 1 → BatchAhead replay (closing ∷ ignored) → ⊥
 closed_not replay closing ignored closed a = closed (ap (λ bs. get_or bs 0 0) a.rest_is)
 
 ends_not : (records after more : List ℕ) → length records < 2 ^ 32 → 1 ≤ length after → more ≡ to_be_bytes w32 (length records) ++ records ++ after → EndsInBatch more → ⊥
@@ -94,20 +94,20 @@ ends_not records after more few left e ends =
 section_few : (section : List ℕ) → length section ≤ side_limit → length section < 2 ^ 32
 section_few section le = omega (arith, le)
 
-batch_stands : (replay : Replay) (more : List ℕ) (at : ℕ) (why : SideFault) → BatchAhead replay (1 ∷ more) → BatchFails replay more at why → ⊥
+batch_stands : (replay : ReplayState) (more : List ℕ) (at : ℕ) (why : SideFault) → BatchAhead replay (1 ∷ more) → BatchFails replay more at why → ⊥
 batch_stands replay more at why a (inl ends) = ends_not (records_bytes a.batch) a.after more a.few a.more (ap (drop 1) a.rest_is) ends.1
 batch_stands replay more at why a (inr f) =
     let same = parts_once f.section (records_bytes a.batch) f.after a.after (section_few f.section f.few) a.few (sym f.bytes_are ∙ ap (drop 1) a.rest_is) in
     section_stands replay f.section (at + 5) a.batch why a.stand same.0 f.fails
 
-records_and_end : (replay : Replay) (more : List ℕ) (at : ℕ) (why : SideFault) → EndsInBatch more → BatchRecordsFail replay more at why → ⊥
+records_and_end : (replay : ReplayState) (more : List ℕ) (at : ℕ) (why : SideFault) → EndsInBatch more → BatchRecordsFail replay more at why → ⊥
 records_and_end replay more at why ends f = ends_not f.section f.after more (section_few f.section f.few) (some f.after f.more) f.bytes_are ends
   where
     some : (after : List ℕ) → after ≢ [] → 1 ≤ length after
     some [] more = absurd (more refl)
     some (b ∷ bs) more = omega arith
 
-batch_fails_once : (replay : Replay) (more : List ℕ) (at : ℕ) (why way : SideFault) → BatchFails replay more at why → BatchFails replay more at way → why ≡ way
+batch_fails_once : (replay : ReplayState) (more : List ℕ) (at : ℕ) (why way : SideFault) → BatchFails replay more at why → BatchFails replay more at way → why ≡ way
 batch_fails_once replay more at why way (inl f) (inl g) = f.0 ∙ sym g.0
 batch_fails_once replay more at why way (inl f) (inr g) = absurd (records_and_end replay more at way f.1 g)
 batch_fails_once replay more at why way (inr f) (inl g) = absurd (records_and_end replay more at why g.1 f)
@@ -151,17 +151,17 @@ header_fails_once bytes (fault.Large m) fault.Memory f g = absurd g
 header_fails_once bytes fault.Memory way f g = absurd f
 
 -- one point that the reading of a side reaches
-record SamePoint (bs cs : List (List Record)) (replay other : Replay) (x y : List ℕ) : Type 0 where
+record SamePoint (bs cs : List (List Record)) (replay other : ReplayState) (x y : List ℕ) : Type 0 where
   batches : bs ≡ cs
   replays_are : replay ≡ other
   rests : x ≡ y
 
-few_behind : (columns : List Column) (bytes : List ℕ) (bs : List (List Record)) (replay : Replay) (x : List ℕ) → (r : Reaches columns bytes bs replay x) → length (batches_bytes bs ++ x) ≤ side_limit
+few_behind : (columns : List Column) (bytes : List ℕ) (bs : List (List Record)) (replay : ReplayState) (x : List ℕ) → (r : Reaches columns bytes bs replay x) → length (batches_bytes bs ++ x) ≤ side_limit
 few_behind columns bytes bs replay x r =
     let few = r.begins.few in
     omega (arith, few, ap length r.behind, length-drop (base_at + base_length_of bytes) bytes)
 
-point_compare : (columns : List Column) (bytes : List ℕ) (bs cs : List (List Record)) (replay other : Replay) (x y : List ℕ) → Reaches columns bytes bs replay x → Reaches columns bytes cs other y → 1 ≤ length x → 1 ≤ length y
+point_compare : (columns : List Column) (bytes : List ℕ) (bs cs : List (List Record)) (replay other : ReplayState) (x y : List ℕ) → Reaches columns bytes bs replay x → Reaches columns bytes cs other y → 1 ≤ length x → 1 ≤ length y
     → SamePoint bs cs replay other x y ⊎ BatchAhead replay x ⊎ BatchAhead other y
 point_compare columns bytes bs cs replay other x y r q left also =
     let tables = base_once (format_of bytes) columns (base_of bytes) r.base_table q.base_table r.base q.base in
@@ -179,7 +179,7 @@ some_left b bs = omega arith
 pub whole_once : (columns : List Column) (bytes : List ℕ) (one other : TableState) (g h m n : ℕ) → IsWhole columns bytes one g m → IsWhole columns bytes other h n → (one ≡ other) × (g ≡ h) × (m ≡ n)
 whole_once columns bytes one other g h m n w v =
     elim (point_compare columns bytes w.batches v.batches w.replay v.replay (w.closing ∷ w.ignored) (v.closing ∷ v.ignored) w.reaches v.reaches (some_left w.closing w.ignored) (some_left v.closing v.ignored)) [
-      | inl same ↦ (w.table_is ∙ ap (λ (q : Replay). q.table) same.replays_are ∙ sym v.table_is, w.generation_is ∙ sym v.generation_is, w.len_is ∙ ap (λ bs. place_behind bytes bs + 1) same.batches ∙ sym v.len_is)
+      | inl same ↦ (w.table_is ∙ ap (λ (q : ReplayState). q.table) same.replays_are ∙ sym v.table_is, w.generation_is ∙ sym v.generation_is, w.len_is ∙ ap (λ bs. place_behind bytes bs + 1) same.batches ∙ sym v.len_is)
       | inr (inl ahead) ↦ absurd (closed_not w.replay w.closing w.ignored w.closed ahead)
       | inr (inr ahead) ↦ absurd (closed_not v.replay v.closing v.ignored v.closed ahead)
     ]
@@ -195,7 +195,7 @@ whole_not_fails columns bytes table g n why w f =
       | inr (inr ahead) ↦ batch_stands f.replay f.more (place_behind bytes f.batches) why ahead f.fails
     ]
 
-same_batch : (columns : List Column) (bytes : List ℕ) (bs cs : List (List Record)) (replay other : Replay) (x y : List ℕ) (why way : SideFault) → SamePoint bs cs replay other (1 ∷ x) (1 ∷ y) → BatchFails replay x (place_behind bytes bs) why → BatchFails other y (place_behind bytes cs) way → why ≡ way
+same_batch : (columns : List Column) (bytes : List ℕ) (bs cs : List (List Record)) (replay other : ReplayState) (x y : List ℕ) (why way : SideFault) → SamePoint bs cs replay other (1 ∷ x) (1 ∷ y) → BatchFails replay x (place_behind bytes bs) why → BatchFails other y (place_behind bytes cs) way → why ≡ way
 same_batch columns bytes bs cs replay other x y why way s f g =
     batch_fails_once replay x (place_behind bytes bs) why way f
     (subst (λ ds. BatchFails replay x (place_behind bytes ds) way) (sym s.batches)
@@ -351,17 +351,17 @@ fails_once columns bytes why way is f g = elim (opens columns bytes why f) [
 ]
 
 -- what was read is what the bytes stand for
-pub read_again : (columns : List Column) (bytes : List ℕ) (r : Result (TableState × ℕ × ℕ × Bool) SideFault) → IsSchema columns → IfOk r (λ found. Side columns bytes found.0 found.1 found.2) → IfErr r (SideFails columns bytes)
-    → (table : TableState) (g n : ℕ) → Side columns bytes table g n → ((narrow : Bool) × (r ≡ Ok (table, g, n, narrow))) ⊎ (r ≡ Err fault.Memory)
-read_again columns bytes (Ok found) is read fails table g n s =
-    let once = side_once columns bytes found.0 table found.1 g found.2 n read s in
-    let same : found ≡ (table, g, n, found.3) = λ i. (once.0 i, once.1 i, once.2 i, found.3) in
+pub read_again : (columns : List Column) (bytes : List ℕ) (r : Result (TableView × ℕ × ℕ × Bool) SideFault) → IsSchema columns → IfOk r (λ found. Side columns bytes found.0.state found.1 found.2) → IfOk r (λ found. found.0.kept ≡ []) → IfErr r (SideFails columns bytes)
+    → (table : TableState) (g n : ℕ) → Side columns bytes table g n → ((narrow : Bool) × (r ≡ Ok (record { state = table; kept = [] }, g, n, narrow))) ⊎ (r ≡ Err fault.Memory)
+read_again columns bytes (Ok found) is read kept fails table g n s =
+    let once = side_once columns bytes found.0.state table found.1 g found.2 n read s in
+    let same : found ≡ (record { state = table; kept = [] }, g, n, found.3) = λ i. (record { state = once.0 i; kept = kept i }, once.1 i, once.2 i, found.3) in
     inl (found.3, ap Ok same)
-read_again columns bytes (Err why) is read fails table g n s = inr (ap Err (apart columns bytes table g n why is s fails))
+read_again columns bytes (Err why) is read kept fails table g n s = inr (ap Err (apart columns bytes table g n why is s fails))
 
-pub told_again : (columns : List Column) (bytes : List ℕ) (r : Result (TableState × ℕ × ℕ × Bool) SideFault) → IsSchema columns → IfOk r (λ found. Side columns bytes found.0 found.1 found.2) → IfErr r (SideFails columns bytes)
+pub told_again : (columns : List Column) (bytes : List ℕ) (r : Result (TableView × ℕ × ℕ × Bool) SideFault) → IsSchema columns → IfOk r (λ found. Side columns bytes found.0.state found.1 found.2) → IfErr r (SideFails columns bytes)
     → (why : SideFault) → SideFails columns bytes why → (r ≡ Err why) ⊎ (r ≡ Err fault.Memory) ⊎ (why ≡ fault.Memory)
-told_again columns bytes (Ok found) is read fails why f = inr (inr (apart columns bytes found.0 found.1 found.2 why is read f))
+told_again columns bytes (Ok found) is read fails why f = inr (inr (apart columns bytes found.0.state found.1 found.2 why is read f))
 told_again columns bytes (Err way) is read fails why f = elim (fails_once columns bytes way why is fails f) [
   | inl same ↦ inl (ap Err same)
   | inr (inl memory) ↦ inr (inl (ap Err memory))

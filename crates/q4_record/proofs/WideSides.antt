@@ -7,10 +7,9 @@ use Rattle.q4_value.proofs.Wider.{wider-refl, same_or_not}
 use Rattle.q4_table.specs.TableState.{TableState}
 use Rattle.q4_record.specs.declared.head.Head.{Head}
 use Rattle.q4_record.specs.declared.head.Head.TheVariants.{Insert, End, Mark, Next}
-use Rattle.q4_record.specs.declared.replay.Replay.{Replay}
 use Rattle.q4_record.specs.declared.side.SideFault.{SideFault}
 use Rattle.q4_record.specs.Record.{Record, records_bytes}
-use Rattle.q4_record.specs.Replay.{table_after, replayed, replays, at_base, at_batches}
+use Rattle.q4_record.specs.Replay.{ReplayState, table_after, replayed, replays, at_base, at_batches}
 use Rattle.q4_record.specs.Schema.{MayHave, schema_bytes}
 use Rattle.q4_record.specs.Side.{generation_limit, base_of, format_of, Begins, after_batches, Reaches, IsWhole, OwnSide, Side, IsNarrow}
 use Rattle.q4_record.specs.Faults.{BaseFails}
@@ -23,7 +22,7 @@ pub record HasOwn (own : List Column) (bytes : List ℕ) : Type 0 where
   pub records : List ℕ
   pub base_is : base_of bytes ≡ schema_bytes own ++ records
 
-pub reached_schema : (own : List Column) (bytes : List ℕ) (batches : List (List Record)) (replay : Replay) (rest : List ℕ) → Reaches own bytes batches replay rest → HasOwn own bytes
+pub reached_schema : (own : List Column) (bytes : List ℕ) (batches : List (List Record)) (replay : ReplayState) (rest : List ℕ) → Reaches own bytes batches replay rest → HasOwn own bytes
 reached_schema own bytes batches replay rest r = record { begins = r.begins; may = r.base.may; records = records_bytes r.base.records; base_is = r.base.base_is }
 
 pub failed_schema : (own : List Column) (bytes : List ℕ) (why : SideFault) → Begins bytes × BaseFails (format_of bytes) own (base_of bytes) why → HasOwn own bytes
@@ -51,11 +50,11 @@ columns_after table (End number) row = refl
 columns_after table (Mark source number) row = refl
 columns_after table (Next number) row = refl
 
-columns_stay : (replay : Replay) (rs : List Record) → (replays replay rs).table.columns ≡ replay.table.columns
+columns_stay : (replay : ReplayState) (rs : List Record) → (replays replay rs).table.columns ≡ replay.table.columns
 columns_stay replay [] = refl
 columns_stay replay (r ∷ rs) = columns_stay (replayed replay r) rs ∙ columns_after replay.table r.head r.row
 
-batches_leave : (replay : Replay) (bs : List (List Record)) → (after_batches replay bs).table.columns ≡ replay.table.columns
+batches_leave : (replay : ReplayState) (bs : List (List Record)) → (after_batches replay bs).table.columns ≡ replay.table.columns
 batches_leave replay [] = refl
 batches_leave replay (b ∷ bs) = batches_leave (replays replay b) bs ∙ columns_stay replay b
 
@@ -64,8 +63,8 @@ pub whole_columns : (own : List Column) (bytes : List ℕ) (table : TableState) 
 whole_columns own bytes table generation len w =
     let reaches = w.reaches in
     let base = reaches.base in
-    let base_columns : reaches.base_table.columns ≡ own = sym (ap (λ (q : Replay). q.table.columns) base.replay_is) ∙ columns_stay (at_base own) base.records in
-    ap (λ (t : TableState). t.columns) w.table_is ∙ ap (λ (q : Replay). q.table.columns) reaches.replay_is ∙ batches_leave (at_batches reaches.base_table) w.batches ∙ base_columns
+    let base_columns : reaches.base_table.columns ≡ own = sym (ap (λ (q : ReplayState). q.table.columns) base.replay_is) ∙ columns_stay (at_base own) base.records in
+    ap (λ (t : TableState). t.columns) w.table_is ∙ ap (λ (q : ReplayState). q.table.columns) reaches.replay_is ∙ batches_leave (at_batches reaches.base_table) w.batches ∙ base_columns
 
 -- ---- narrower sides
 

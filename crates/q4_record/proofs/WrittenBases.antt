@@ -14,17 +14,16 @@ use Rattle.q4_table.specs.Rows.{bytes_of, numbers_of}
 use Rattle.q4_table.specs.Marks.{with_mark}
 use Rattle.q4_table.specs.Adding.{number_limit, count_limit, bytes_limit}
 use Rattle.q4_table.specs.Valid.{RiseBelow, IsMark, SourcesRise, IsValidTable}
-use Rattle.q4_record.specs.declared.replay.Replay.{Replay}
 use Rattle.q4_record.specs.declared.replay.Stage.{Stage}
 use Rattle.q4_record.specs.declared.replay.Stage.TheVariants as stage
 use Rattle.q4_record.specs.Wide.{IsWideValue}
 use Rattle.q4_record.specs.Record.{Record}
-use Rattle.q4_record.specs.Replay.{replayed, replays, at_base, passed_limit, MayMark, MayNext, Stands, AllStand}
+use Rattle.q4_record.specs.Replay.{ReplayState, replayed, replays, at_base, passed_limit, MayMark, MayNext, Stands, AllStand}
 use Rattle.q4_record.specs.Written.{row_record, mark_record, next_record, base_records}
 use Rattle.q4_record.proofs.Cuts.{wide_row, none_long}
 use Rattle.q4_record.proofs.Limits.{Within, passes_none}
 
-pub stand_append : (old : Replay) (rs ss : List Record) → AllStand old rs → AllStand (replays old rs) ss → AllStand old (rs ++ ss)
+pub stand_append : (old : ReplayState) (rs ss : List Record) → AllStand old rs → AllStand (replays old rs) ss → AllStand old (rs ++ ss)
 stand_append old [] ss a b = b
 stand_append old (r ∷ rs) ss a b = (a.0, stand_append (replayed old r) rs ss a.1 b)
 
@@ -151,7 +150,7 @@ marks_stand columns next rows s front (m ∷ ms) within are rise before below =
     } in
     let set : with_mark m.source m.number front ≡ front ++ m ∷ [] = mark_behind front m (All-head (λ (k : marks.Mark). All (λ f. f.source < k.source) front) m ms below) in
     let deeper = marks_stand columns next rows (stage.Marks m.source) (front ++ m ∷ []) ms within (All-tail IsMark m ms are) rise.1 rise.0 (below_more front m ms (All-tail (λ (k : marks.Mark). All (λ f. f.source < k.source) front) m ms below) rise.0) in
-    let stage_of : List marks.Mark → Replay = λ ns. record { stage = stage.Marks m.source; table = table_of columns next rows ns } in
+    let stage_of : List marks.Mark → ReplayState = λ ns. record { stage = stage.Marks m.source; table = table_of columns next rows ns } in
     record {
       stand = (one, subst (λ ns. AllStand (stage_of ns) (map mark_record ms)) (sym set) deeper.stand);
       last = deeper.last;

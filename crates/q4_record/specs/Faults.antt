@@ -6,12 +6,11 @@ use Rattle.q4_value.specs.Reading.{told_length}
 use Rattle.q4_value.specs.Row.{AreWider}
 use Rattle.q4_table.specs.TableState.{TableState}
 use Rattle.q4_record.specs.declared.header.Format.{Format}
-use Rattle.q4_record.specs.declared.replay.Replay.{Replay}
 use Rattle.q4_record.specs.declared.replay.Stage.TheVariants as stage
 use Rattle.q4_record.specs.declared.side.SideFault.{SideFault}
 use Rattle.q4_record.specs.declared.side.SideFault.TheVariants as fault
 use Rattle.q4_record.specs.Record.{Record, records_bytes}
-use Rattle.q4_record.specs.Replay.{replays, at_base, AllStand}
+use Rattle.q4_record.specs.Replay.{ReplayState, replays, at_base, AllStand}
 use Rattle.q4_record.specs.Reading.{SectionFails}
 use Rattle.q4_record.specs.Schema.{schema_bytes, MayHave, SchemaFails}
 use Rattle.q4_record.specs.Side.{side_limit, generation_limit, base_at, base_of, generation_of, format_of, IsOpen, HasHeader, Begins, Reaches, IsWhole, place_behind, HasRoom, OwnSide}
@@ -52,7 +51,7 @@ abbrev pub EndsInBatch : List ℕ → Type 0
 EndsInBatch bytes = (length bytes < 4) ⊎ (length bytes < 4 + told_length bytes + 1)
 
 -- A batch's records and at least one byte more are there, and a record does not stand.
-pub record BatchRecordsFail (replay : Replay) (bytes : List ℕ) (at : ℕ) (why : SideFault) : Type 0 where
+pub record BatchRecordsFail (replay : ReplayState) (bytes : List ℕ) (at : ℕ) (why : SideFault) : Type 0 where
   pub section : List ℕ
   pub after : List ℕ
   pub bytes_are : bytes ≡ to_be_bytes w32 (length section) ++ section ++ after
@@ -61,14 +60,14 @@ pub record BatchRecordsFail (replay : Replay) (bytes : List ℕ) (at : ℕ) (why
   pub fails : SectionFails replay section (at + 5) why
 
 -- Why the batch does not stand whose gate is at this place, by what is behind the gate.
-abbrev pub BatchFails : Replay → List ℕ → ℕ → SideFault → Type 0
+abbrev pub BatchFails : ReplayState → List ℕ → ℕ → SideFault → Type 0
 BatchFails replay bytes at why =
     ((why ≡ fault.Damaged at) × EndsInBatch bytes) ⊎ BatchRecordsFail replay bytes at why
 
 -- Some batches stand, and the next one does not.
 pub record BatchesFail (columns : List Column) (bytes : List ℕ) (why : SideFault) : Type 0 where
   pub batches : List (List Record)
-  pub replay : Replay
+  pub replay : ReplayState
   pub more : List ℕ
   pub reaches : Reaches columns bytes batches replay (1 ∷ more)
   pub fails : BatchFails replay more (place_behind bytes batches) why

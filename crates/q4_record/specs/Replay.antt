@@ -20,6 +20,15 @@ use Rattle.q4_record.specs.declared.replay.Stage.TheVariants.{Rows, Marks, Whole
 use Rattle.q4_record.specs.Wide.{is_long}
 use Rattle.q4_record.specs.Record.{Record, IsRecord}
 
+-- a side as far as it is read: which records may come next, and the table so far
+pub record ReplayState : Type 0 where
+  pub stage : Stage
+  pub table : TableState
+
+-- what a replay has read, without what its table keeps beside
+abbrev pub state_of : Replay → ReplayState
+state_of replay = record { stage = replay.stage; table = replay.table.state }
+
 -- A row comes from a valid origin or from none. In mode A its number there is above the mark of its source.
 abbrev pub MayForward : List marks.Mark → Option Origin → Type 0
 MayForward marks None = Unit {0}
@@ -74,18 +83,18 @@ stage_after stage (End number) = stage
 stage_after stage (Mark source number) = Marks source
 stage_after stage (Next number) = Whole
 
-abbrev pub replayed : Replay → Record → Replay
+abbrev pub replayed : ReplayState → Record → ReplayState
 replayed replay r = record { stage = stage_after replay.stage r.head; table = table_after replay.table r.head r.row }
 
 -- the replay of records one after the other
-abbrev pub replays : Replay → List Record → Replay
+abbrev pub replays : ReplayState → List Record → ReplayState
 replays replay records = fold replayed replay records
 
 -- the base is read from an empty table on, whose next is 1 and whose marks are 0
-abbrev pub at_base : List Column → Replay
+abbrev pub at_base : List Column → ReplayState
 at_base columns = record { stage = Rows; table = new_table columns }
 
-abbrev pub at_batches : TableState → Replay
+abbrev pub at_batches : TableState → ReplayState
 at_batches table = record { stage = Batch; table = table }
 
 -- the least limit that a table passes whose last record has this row: 1 for its rows, 2 for their sizes, 3 for next, 4
@@ -100,12 +109,12 @@ passed_limit table row =
     else None
 
 -- A record that may come, and that passes no limit.
-pub record Stands (replay : Replay) (r : Record) : Type 0 where
+pub record Stands (replay : ReplayState) (r : Record) : Type 0 where
   pub is : IsRecord replay.table.columns r
   pub may : MayCome replay.stage replay.table r.head
   pub within : passed_limit (replayed replay r).table r.row ≡ None
 
 -- Each record stands where the ones before it lead to.
-abbrev pub AllStand : Replay → List Record → Type 0
+abbrev pub AllStand : ReplayState → List Record → Type 0
 AllStand replay [] = Unit {0}
 AllStand replay (r ∷ rs) = Stands replay r × AllStand (replayed replay r) rs

@@ -7,10 +7,9 @@ use Rattle.q4_value.specs.Row.{AreWider}
 use Rattle.q4_table.specs.TableState.{TableState}
 use Rattle.q4_record.specs.declared.header.Format.{Format}
 use Rattle.q4_record.specs.declared.header.Format.TheVariants.{First, Second}
-use Rattle.q4_record.specs.declared.replay.Replay.{Replay}
 use Rattle.q4_record.specs.declared.replay.Stage.TheVariants as stage
 use Rattle.q4_record.specs.Record.{Record, records_bytes}
-use Rattle.q4_record.specs.Replay.{replays, at_base, at_batches, AllStand}
+use Rattle.q4_record.specs.Replay.{ReplayState, replays, at_base, at_batches, AllStand}
 use Rattle.q4_record.specs.Schema.{schema_bytes, MayHave}
 
 -- the most bytes of a side
@@ -92,15 +91,15 @@ abbrev pub batches_bytes : List (List Record) → List ℕ
 batches_bytes batches = flat_map batch_bytes batches
 
 -- Each record of each batch stands where those before it lead to.
-abbrev pub BatchesStand : Replay → List (List Record) → Type 0
+abbrev pub BatchesStand : ReplayState → List (List Record) → Type 0
 BatchesStand replay [] = Unit {0}
 BatchesStand replay (b ∷ bs) = AllStand replay b × BatchesStand (replays replay b) bs
 
-abbrev pub after_batches : Replay → List (List Record) → Replay
+abbrev pub after_batches : ReplayState → List (List Record) → ReplayState
 after_batches replay batches = fold replays replay batches
 
 -- The header, the base and these batches stand, and lead to this replay. The rest is what is behind them.
-pub record Reaches (columns : List Column) (bytes : List ℕ) (batches : List (List Record)) (replay : Replay) (rest : List ℕ) : Type 0 where
+pub record Reaches (columns : List Column) (bytes : List ℕ) (batches : List (List Record)) (replay : ReplayState) (rest : List ℕ) : Type 0 where
   pub begins : Begins bytes
   pub base_table : TableState
   pub base : IsBase (format_of bytes) columns (base_of bytes) base_table
@@ -116,7 +115,7 @@ place_behind bytes batches = base_at + base_length_of bytes + length (batches_by
 -- with the closing gate.
 pub record IsWhole (columns : List Column) (bytes : List ℕ) (table : TableState) (generation len : ℕ) : Type 0 where
   pub batches : List (List Record)
-  pub replay : Replay
+  pub replay : ReplayState
   pub closing : ℕ
   pub ignored : List ℕ
   pub reaches : Reaches columns bytes batches replay (closing ∷ ignored)

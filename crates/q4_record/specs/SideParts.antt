@@ -4,14 +4,13 @@ use Rattle.q4_value.specs.declared.column.Column.{Column}
 use Rattle.q4_value.specs.Row.{IsWider, AreWider}
 use Rattle.q4_table.specs.TableState.{TableState}
 use Rattle.q4_record.specs.declared.header.Format.{Format}
-use Rattle.q4_record.specs.declared.replay.Replay.{Replay}
 use Rattle.q4_record.specs.declared.schema.Likeness.{Likeness}
 use Rattle.q4_record.specs.declared.schema.Likeness.TheVariants as likeness
 use Rattle.q4_record.specs.declared.schema.ToldColumns.{ToldColumns}
 use Rattle.q4_record.specs.declared.side.SideFault.{SideFault}
 use Rattle.q4_record.specs.declared.side.SideFault.TheVariants as fault
 use Rattle.q4_record.specs.Record.{Record}
-use Rattle.q4_record.specs.Replay.{at_batches}
+use Rattle.q4_record.specs.Replay.{ReplayState, at_batches}
 use Rattle.q4_record.specs.Schema.{schema_bytes, MayHave, DifferFirst, SchemaFails}
 use Rattle.q4_record.specs.Side.{base_at, IsOpen, IsBase, batches_bytes, BatchesStand, after_batches}
 use Rattle.q4_record.specs.Faults.{HeaderFails, BaseFails, BatchFails}
@@ -88,7 +87,7 @@ BaseFailed format columns base why =
     ⊎ ((own : List Column) × AreWider columns own × BaseFails format own base why)
 
 -- These batches stand behind a base that leads to this table, and lead to this replay.
-pub record LeadsTo (table : TableState) (batches : List (List Record)) (replay : Replay) : Type 0 where
+pub record LeadsTo (table : TableState) (batches : List (List Record)) (replay : ReplayState) : Type 0 where
   pub stand : BatchesStand (at_batches table) batches
   pub replay_is : replay ≡ after_batches (at_batches table) batches
 
@@ -96,7 +95,7 @@ pub record LeadsTo (table : TableState) (batches : List (List Record)) (replay :
 -- to and with the closing gate.
 pub record BatchesRead (table : TableState) (bytes : List ℕ) (at : ℕ) (new : TableState) (len : ℕ) : Type 0 where
   pub batches : List (List Record)
-  pub replay : Replay
+  pub replay : ReplayState
   pub closing : ℕ
   pub ignored : List ℕ
   pub bytes_are : bytes ≡ batches_bytes batches ++ closing ∷ ignored
@@ -108,7 +107,7 @@ pub record BatchesRead (table : TableState) (bytes : List ℕ) (at : ℕ) (new :
 -- Some batches stand, and the next one does not.
 pub record NextFails (table : TableState) (bytes : List ℕ) (at : ℕ) (why : SideFault) : Type 0 where
   pub batches : List (List Record)
-  pub replay : Replay
+  pub replay : ReplayState
   pub more : List ℕ
   pub bytes_are : bytes ≡ batches_bytes batches ++ 1 ∷ more
   pub leads : LeadsTo table batches replay

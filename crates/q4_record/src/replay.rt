@@ -7,7 +7,7 @@ ghost use Rattle.q4_value.specs.Row.{IsRowOf, row_size as size_of};
 ghost use Rattle.q4_table.specs.declared.origin.Origin.{Origin as RowOrigin};
 ghost use Rattle.q4_table.specs.Valid.{IsMark};
 ghost use Rattle.q4_record.specs.Wide.{is_long};
-ghost use Rattle.q4_record.specs.Replay.{MayForward, MayInsert, MayEnd, MayMark, MayNext, MayCome, table_after, replayed, passed_limit};
+ghost use Rattle.q4_record.specs.Replay.{state_of, MayForward, MayInsert, MayEnd, MayMark, MayNext, MayCome, table_after, replayed, passed_limit};
 ghost use Rattle.q4_record.specs.Parts.{IsReady, RowStands, RowFails, RecordStood, RecordFailed, SectionStood, SectionFailed};
 
 use crate::extent::{Extent, optional_count, row_extent};
@@ -56,10 +56,11 @@ impl Replay {
     /// Reads the records of a base or a batch. They begin at this place of the side.
     pub fn read_section(&mut self, alloc: Global, bytes: &[u8], at: u64) -> Result<(), SideFault>
         requires place { at + length bytes.now < 2 ^ 64 }
-        requires ready { IsReady self.old }
-        ensures stand { OnOk result (SectionStood self.old bytes.now self.new) }
-        ensures ready { OnOk result (IsReady self.new) }
-        ensures fault { IfErr result (SectionFailed self.old bytes.now at) }
+        requires ready { IsReady (state_of self.old) }
+        ensures stand { OnOk result (SectionStood (state_of self.old) bytes.now (state_of self.new)) }
+        ensures ready { OnOk result (IsReady (state_of self.new)) }
+        ensures kept { OnOk result (self.new.table.kept ≡ self.old.table.kept) }
+        ensures fault { IfErr result (SectionFailed (state_of self.old) bytes.now at) }
     {
         let mut rest = bytes;
         while !rest.is_empty() {
@@ -76,9 +77,10 @@ impl Replay {
         bytes: &'a [u8],
         at: u64,
     ) -> Result<&'a [u8], SideFault>
-        requires { IsReady self.old }
-        ensures stands { IfOk result (λ rest. RecordStood self.old bytes.now self.new rest.now) }
-        ensures fault { IfErr result (RecordFailed self.old bytes.now at) }
+        requires { IsReady (state_of self.old) }
+        ensures stands { IfOk result (λ rest. RecordStood (state_of self.old) bytes.now (state_of self.new) rest.now) }
+        ensures kept { OnOk result (self.new.table.kept ≡ self.old.table.kept) }
+        ensures fault { IfErr result (RecordFailed (state_of self.old) bytes.now at) }
     {
         let Some((head, rest)) = read_head(bytes) else {
             return Err(SideFault::Damaged(at));
@@ -91,8 +93,8 @@ impl Replay {
 
     // Whether the record may come next.
     fn may_come(&self, head: Head) -> bool
-        ensures may { OnTrue result (MayCome self.now.stage self.now.table head) }
-        ensures may_not { OnFalse result (MayCome self.now.stage self.now.table head → ⊥) }
+        ensures may { OnTrue result (MayCome self.now.stage self.now.table.state head) }
+        ensures may_not { OnFalse result (MayCome self.now.stage self.now.table.state head → ⊥) }
     {
         match head {
             Head::Insert(number, origin) => self.may_insert(number, origin),
@@ -103,8 +105,8 @@ impl Replay {
     }
 
     fn may_insert(&self, number: u64, origin: Option<Origin>) -> bool
-        ensures may { OnTrue result (MayInsert self.now.stage self.now.table number origin) }
-        ensures may_not { OnFalse result (MayInsert self.now.stage self.now.table number origin → ⊥) }
+        ensures may { OnTrue result (MayInsert self.now.stage self.now.table.state number origin) }
+        ensures may_not { OnFalse result (MayInsert self.now.stage self.now.table.state number origin → ⊥) }
     {
         match (self.stage, origin) {
             (Stage::Rows, None) => number >= self.table.next(),
@@ -117,8 +119,8 @@ impl Replay {
     }
 
     fn may_forward(&self, origin: Origin) -> bool
-        ensures may { OnTrue result (MayForward self.now.table.marks (Some origin)) }
-        ensures may_not { OnFalse result (MayForward self.now.table.marks (Some origin) → ⊥) }
+        ensures may { OnTrue result (MayForward self.now.table.state.marks (Some origin)) }
+        ensures may_not { OnFalse result (MayForward self.now.table.state.marks (Some origin) → ⊥) }
     {
         if !is_mark(origin.source, origin.number) {
             return false;
@@ -130,8 +132,8 @@ impl Replay {
     }
 
     fn may_end(&self, number: u64) -> bool
-        ensures may { OnTrue result (MayEnd self.now.stage self.now.table number) }
-        ensures may_not { OnFalse result (MayEnd self.now.stage self.now.table number → ⊥) }
+        ensures may { OnTrue result (MayEnd self.now.stage self.now.table.state number) }
+        ensures may_not { OnFalse result (MayEnd self.now.stage self.now.table.state number → ⊥) }
     {
         match self.stage {
             Stage::Rows | Stage::Batch => self.table.row(number).is_some(),
@@ -151,8 +153,8 @@ impl Replay {
     }
 
     fn may_next(&self, number: u64) -> bool
-        ensures may { OnTrue result (MayNext self.now.stage self.now.table number) }
-        ensures may_not { OnFalse result (MayNext self.now.stage self.now.table number → ⊥) }
+        ensures may { OnTrue result (MayNext self.now.stage self.now.table.state number) }
+        ensures may_not { OnFalse result (MayNext self.now.stage self.now.table.state number → ⊥) }
     {
         match self.stage {
             Stage::Rows | Stage::Marks(_) => number >= self.table.next(),
@@ -168,10 +170,11 @@ impl Replay {
         bytes: &'a [u8],
         at: u64,
     ) -> Result<&'a [u8], SideFault>
-        requires ready { IsReady self.old }
-        requires may { MayCome self.old.stage self.old.table head }
-        ensures stands { IfOk result (λ rest. RowStands self.old head bytes.now self.new rest.now) }
-        ensures fault { IfErr result (RowFails self.old head bytes.now at) }
+        requires ready { IsReady (state_of self.old) }
+        requires may { MayCome self.old.stage self.old.table.state head }
+        ensures stands { IfOk result (λ rest. RowStands (state_of self.old) head bytes.now (state_of self.new) rest.now) }
+        ensures kept { OnOk result (self.new.table.kept ≡ self.old.table.kept) }
+        ensures fault { IfErr result (RowFails (state_of self.old) head bytes.now at) }
     {
         match head {
             Head::Insert(number, origin) => self.insert(alloc, number, origin, bytes, at),
@@ -205,10 +208,11 @@ impl Replay {
         bytes: &'a [u8],
         at: u64,
     ) -> Result<&'a [u8], SideFault>
-        requires ready { IsReady self.old }
-        requires may { MayInsert self.old.stage self.old.table number origin }
-        ensures stands { IfOk result (λ rest. RowStands self.old (Head.Insert number origin) bytes.now self.new rest.now) }
-        ensures fault { IfErr result (RowFails self.old (Head.Insert number origin) bytes.now at) }
+        requires ready { IsReady (state_of self.old) }
+        requires may { MayInsert self.old.stage self.old.table.state number origin }
+        ensures stands { IfOk result (λ rest. RowStands (state_of self.old) (Head.Insert number origin) bytes.now (state_of self.new) rest.now) }
+        ensures kept { OnOk result (self.new.table.kept ≡ self.old.table.kept) }
+        ensures fault { IfErr result (RowFails (state_of self.old) (Head.Insert number origin) bytes.now at) }
     {
         match read_row(alloc, self.table.columns(), bytes) {
             Ok((row, len)) => match self.limit_passed(number, row_size(&row), false) {
@@ -234,8 +238,8 @@ impl Replay {
         bytes: &[u8],
         at: u64,
     ) -> SideFault
-        requires { (row : List Field) (rest : List ℕ) → IsRowOf self.now.table.columns row → bytes.now ≡ row_bytes self.now.table.columns row ++ rest → ⊥ }
-        ensures { RowFails self.now (Head.Insert number origin) bytes.now at result }
+        requires { (row : List Field) (rest : List ℕ) → IsRowOf self.now.table.state.columns row → bytes.now ≡ row_bytes self.now.table.state.columns row ++ rest → ⊥ }
+        ensures { RowFails (state_of self.now) (Head.Insert number origin) bytes.now at result }
     {
         let (extent, long) = row_extent(self.table.columns(), bytes);
         match extent {
@@ -260,7 +264,7 @@ impl Replay {
     // The least limit that is passed with one more row, of this number and size, and with a text that is too long or not.
     fn limit_passed(&self, number: u64, size: u64, long: bool) -> Option<u32>
         ensures { (origin : Option RowOrigin) (row : List Field) → size ≡ size_of row → long ≡ list_any is_long row
-            → result ≡ passed_limit (table_after self.now.table (Head.Insert number origin) row) row }
+            → result ≡ passed_limit (table_after self.now.table.state (Head.Insert number origin) row) row }
     {
         if self.table.count() >= COUNT_LIMIT {
             Some(1)
@@ -279,10 +283,11 @@ impl Replay {
 
     // Adds a row that passes no limit.
     fn add(&mut self, number: u64, origin: Option<Origin>, row: Row) -> Result<(), SideFault>
-        requires may { MayInsert self.old.stage self.old.table number origin }
-        requires fits { IsRowOf self.old.table.columns row }
-        requires within { passed_limit (table_after self.old.table (Head.Insert number origin) row) row ≡ None }
-        ensures added { OnOk result (self.new ≡ replayed self.old (record { head = Head.Insert number origin; columns = self.old.table.columns; row = row })) }
+        requires may { MayInsert self.old.stage self.old.table.state number origin }
+        requires fits { IsRowOf self.old.table.state.columns row }
+        requires within { passed_limit (table_after self.old.table.state (Head.Insert number origin) row) row ≡ None }
+        ensures added { OnOk result (state_of self.new ≡ replayed (state_of self.old) (record { head = Head.Insert number origin; columns = self.old.table.state.columns; row = row })) }
+        ensures kept { OnOk result (self.new.table.kept ≡ self.old.table.kept) }
         ensures fault { IfErr result (λ why. why ≡ SideFault.Memory) }
     {
         self.table.set_next(number);

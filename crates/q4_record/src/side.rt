@@ -1,4 +1,4 @@
-ghost use Rattle.std.specs.Prelude.{◌≡◌, ◌↔◌, ◌≤◌, ◌+◌, ◌∷◌, ◌++◌, ◌⊎◌, ℕ, Bool, false, List, Ok, Err, length, IsTrue, IfOk, IfErr, IfSome, IfNone};
+ghost use Rattle.std.specs.Prelude.{◌≡◌, ◌↔◌, ◌≤◌, ◌+◌, ◌∷◌, ◌++◌, ◌⊎◌, ℕ, Bool, false, List, [], Ok, Err, length, IsTrue, IfOk, IfErr, IfSome, IfNone};
 ghost use Rattle.std.specs.Int.{w32, to_be_bytes};
 ghost use Rattle.q4_table.specs.TableState.{TableState};
 ghost use Rattle.q4_table.specs.Valid.{IsColumns};
@@ -62,13 +62,15 @@ pub fn read_side(
     requires schema { IsSchema columns }
 
     // What is read is a side.
-    ensures side { IfOk result (λ found. Side columns bytes.now found.0 found.1 found.2) }
+    ensures side { IfOk result (λ found. Side columns bytes.now found.0.state found.1 found.2) }
     // Where its schema is not narrower it is of these very columns.
-    ensures own { IfOk result (λ found. (found.3 ≡ false) → OwnSide columns bytes.now found.0 found.1 found.2) }
+    ensures own { IfOk result (λ found. (found.3 ≡ false) → OwnSide columns bytes.now found.0.state found.1 found.2) }
     ensures narrow { IfOk result (λ found. IsTrue found.3 ↔ IsNarrow columns bytes.now) }
+    // The table keeps no condition.
+    ensures kept { IfOk result (λ found. found.0.kept ≡ []) }
     // A side is read, unless memory runs out.
     ensures read { (table : TableState) (generation len : ℕ) → Side columns bytes.now table generation len
-        → ((narrow : Bool) × (result ≡ Ok (table, generation, len, narrow))) ⊎ (result ≡ Err SideFault.Memory) }
+        → ((narrow : Bool) × (result ≡ Ok (record { state = table; kept = [] }, generation, len, narrow))) ⊎ (result ≡ Err SideFault.Memory) }
     // Else the first part from the front that does not stand is told.
     ensures fault { IfErr result (SideFails columns bytes.now) }
     // Where bytes are no side that is told, unless memory runs out.
@@ -84,9 +86,10 @@ fn read_parts(
     columns: Columns,
 ) -> Result<(Table, u64, u64, bool), SideFault>
     requires { IsColumns columns }
-    ensures side { IfOk result (λ found. Side columns bytes.now found.0 found.1 found.2) }
-    ensures own { IfOk result (λ found. (found.3 ≡ false) → OwnSide columns bytes.now found.0 found.1 found.2) }
+    ensures side { IfOk result (λ found. Side columns bytes.now found.0.state found.1 found.2) }
+    ensures own { IfOk result (λ found. (found.3 ≡ false) → OwnSide columns bytes.now found.0.state found.1 found.2) }
     ensures narrow { IfOk result (λ found. IsTrue found.3 ↔ IsNarrow columns bytes.now) }
+    ensures kept { IfOk result (λ found. found.0.kept ≡ []) }
     ensures fault { IfErr result (SideFails columns bytes.now) }
 {
     let header = read_header(bytes)?;
@@ -115,8 +118,9 @@ fn read_base(
 ) -> Result<(Table, Option<Columns>), SideFault>
     requires columns { IsColumns columns }
     requires few { length base.now ≤ side_limit }
-    ensures base { IfOk result (λ found. BaseRead format columns base.now found.0 found.1) }
-    ensures ready { IfOk result (λ found. IsReady (at_batches found.0)) }
+    ensures base { IfOk result (λ found. BaseRead format columns base.now found.0.state found.1) }
+    ensures ready { IfOk result (λ found. IsReady (at_batches found.0.state)) }
+    ensures kept { IfOk result (λ found. found.0.kept ≡ []) }
     ensures fault { IfErr result (BaseFailed format columns base.now) }
 {
     let at = BASE_AT as u64;
@@ -142,11 +146,12 @@ fn read_batches(
     bytes: &[u8],
     at: usize,
 ) -> Result<(Table, u64), SideFault>
-    requires ready { IsReady (at_batches table) }
+    requires ready { IsReady (at_batches table.state) }
     requires few { at + length bytes.now ≤ side_limit }
     requires gate { 1 ≤ length bytes.now }
-    ensures read { IfOk result (λ found. BatchesRead table bytes.now at found.0 found.1) }
-    ensures fault { IfErr result (BatchesFailed table bytes.now at) }
+    ensures read { IfOk result (λ found. BatchesRead table.state bytes.now at found.0.state found.1) }
+    ensures kept { IfOk result (λ found. found.0.kept ≡ table.kept) }
+    ensures fault { IfErr result (BatchesFailed table.state bytes.now at) }
 {
     let mut replay = Replay {
         stage: Stage::Batch,

@@ -14,9 +14,8 @@ use Rattle.q4_table.specs.Valid.{RiseBelow, IsValidTable}
 use Rattle.q4_table.specs.Rows.{numbers_of, without_row, IsThere, row_in}
 use Rattle.q4_table.proofs.Places.{without_above}
 use Rattle.q4_table.proofs.Validity.{check_room, valid-added, valid-removed}
-use Rattle.q4_record.specs.declared.replay.Replay.{Replay}
 use Rattle.q4_record.specs.Record.{Record, record_bytes}
-use Rattle.q4_record.specs.Replay.{replayed, replays, at_batches, Stands, AllStand}
+use Rattle.q4_record.specs.Replay.{ReplayState, replayed, replays, at_batches, Stands, AllStand}
 use Rattle.q4_record.proofs.Changes.{added_stands, ended_stands}
 use Rattle.q4_disk.specs.Told.{Sides, Told}
 use Rattle.q4_store.specs.Reading.{ReadsOwn}
@@ -29,14 +28,14 @@ use Rattle.q4_store.proofs.Weights.{compact_added, compact_removed}
 use Rattle.q4_store.proofs.Carrying.{longer, row_carried, end_carried}
 use Rattle.q4_store.proofs.Fronts.{replays_lead}
 
-stand_push : (old : Replay) (rs : List Record) (r : Record) → AllStand old rs → Stands (replays old rs) r → AllStand old (rs ++ r ∷ [])
+stand_push : (old : ReplayState) (rs : List Record) (r : Record) → AllStand old rs → Stands (replays old rs) r → AllStand old (rs ++ r ∷ [])
 stand_push old [] r all one = (one, tt)
 stand_push old (q ∷ qs) r all one = (all.0, stand_push (replayed old q) qs r all.1 one)
 
 -- the table with one change more
 pub table_more : (content : Content) (change : Record) → AllStand (at_batches content.committed) content.pending → table_of (with_change content change) ≡ (replayed (at_batches (table_of content)) change).table
 table_more content change all =
-    ap (λ (replay : Replay). replay.table) (fold_push replayed (at_batches content.committed) content.pending change ∙ ap (λ (replay : Replay). replayed replay change) (replays_lead content.committed content.pending all))
+    ap (λ (replay : ReplayState). replay.table) (fold_push replayed (at_batches content.committed) content.pending change ∙ ap (λ (replay : ReplayState). replayed replay change) (replays_lead content.committed content.pending all))
 
 prefix_more : (content : Content) (change : Record) (generation : ℕ) (c : Sides) → IsPrefix content generation c → IsPrefix (with_change content change) generation c
 prefix_more content change generation c p = record {
@@ -58,7 +57,7 @@ appended told store content change records ends rows reserved s stands valid uno
       own = s.own;
       valid = subst IsValidTable (sym more) valid;
       unowned = subst (λ (t : TableState). All (λ (r : StoredRow). r.owner ≡ None) t.rows) (sym more) unowned;
-      stand = stand_push (at_batches content.committed) content.pending change s.stand (subst (λ (replay : Replay). Stands replay change) (sym (replays_lead content.committed content.pending s.stand)) stands);
+      stand = stand_push (at_batches content.committed) content.pending change s.stand (subst (λ (replay : ReplayState). Stands replay change) (sym (replays_lead content.committed content.pending s.stand)) stands);
       records = records_are ∙ ap (λ (l : List ℕ). l ++ record_bytes change) s.records ∙ flat_map_more record_bytes [] content.pending change;
       rows = rows_are ∙ ap (λ (t : TableState). length t.rows) (sym more);
       images = λ honest c left. prefix_more content change store.generation c (s.images honest c left);

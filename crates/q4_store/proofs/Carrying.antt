@@ -15,8 +15,7 @@ use Rattle.q4_table.specs.Adding.{add_row}
 use Rattle.q4_table.specs.Valid.{IsValidTable}
 use Rattle.q4_record.specs.declared.head.Head.TheVariants.{Insert}
 use Rattle.q4_record.specs.Record.{Record, record_bytes, records_bytes}
-use Rattle.q4_record.specs.declared.replay.Replay.{Replay}
-use Rattle.q4_record.specs.Replay.{replays, at_base}
+use Rattle.q4_record.specs.Replay.{ReplayState, replays, at_base}
 use Rattle.q4_disk.specs.Told.{Told}
 use Rattle.q4_store.specs.declared.copying.Progress.{Progress}
 use Rattle.q4_store.specs.Content.{Content, row_added, row_ended}
@@ -99,7 +98,7 @@ module _ {D : Type 0} (told : D → Told) (store : Stored D) (table : TableState
       let all : c.written ++ (c.waiting ++ one ∷ []) ≡ (c.written ++ c.waiting) ++ one ∷ [] = sym (append_assoc c.written c.waiting (one ∷ [])) in
       let later : TableState = record table { rows = without_row number table.rows } in
       let below = there_below number progress.cursor table.rows lt there in
-      let none_there : c.written ≡ [] → ⊥ = λ none. nothing_there number (rows_below progress.cursor table.rows) (sym (ap (λ (q : Replay). q.table.rows) c.copied.leads) ∙ ap (λ rs. (replays (at_base table.columns) rs).table.rows) (λ i. none i ++ c.first none i)) below in
+      let none_there : c.written ≡ [] → ⊥ = λ none. nothing_there number (rows_below progress.cursor table.rows) (sym (ap (λ (q : ReplayState). q.table.rows) c.copied.leads) ∙ ap (λ rs. (replays (at_base table.columns) rs).table.rows) (λ i. none i ++ c.first none i)) below in
       let size = ap (λ rs. length (records_bytes rs)) all ∙ ap length (sym (flat_map_more record_bytes [] (c.written ++ c.waiting) one)) in
       record {
         written = c.written;

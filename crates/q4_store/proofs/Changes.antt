@@ -8,16 +8,15 @@ use Rattle.q4_table.specs.declared.origin.Origin.{Origin}
 use Rattle.q4_table.specs.TableState.{TableState}
 use Rattle.q4_table.specs.Rows.{without_row}
 use Rattle.q4_table.specs.Adding.{add_row}
-use Rattle.q4_record.specs.declared.replay.Replay.{Replay}
 use Rattle.q4_record.specs.Record.{Record}
-use Rattle.q4_record.specs.Replay.{replayed, replays, at_batches, table_after}
+use Rattle.q4_record.specs.Replay.{ReplayState, replayed, replays, at_batches, table_after}
 use Rattle.q4_disk.specs.Told.{Sides}
 use Rattle.q4_store.specs.Reading.{ReadsOwn, Opens}
 use Rattle.q4_store.proofs.Quiet.{own_opened}
 use Rattle.q4_store.specs.Content.{Content, row_added, row_ended, table_of, table_with, with_change, IsPrefix, IsPrefixOrNew}
 
 more : (content : Content) (change : Record) → table_of (with_change content change) ≡ table_after (table_of content) change.head change.row
-more content change = ap (λ (replay : Replay). replay.table) (fold_push replayed (at_batches content.committed) content.pending change)
+more content change = ap (λ (replay : ReplayState). replay.table) (fold_push replayed (at_batches content.committed) content.pending change)
 
 pub added_is : (content : Content) (columns : List Column) (number : ℕ) (row : List Value) (origin : Option Origin) → number ≡ (table_of content).next → table_of (with_change content (row_added columns number row origin)) ≡ add_row (table_of content) row origin
 added_is content columns number row origin is_next =

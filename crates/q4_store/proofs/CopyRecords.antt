@@ -15,11 +15,10 @@ use Rattle.q4_table.specs.Rows.{numbers_of, bytes_of, without_row, IsThere}
 use Rattle.q4_table.specs.Adding.{add_row, count_limit, bytes_limit}
 use Rattle.q4_table.specs.Valid.{RiseBelow, IsValidTable}
 use Rattle.q4_record.specs.declared.head.Head.TheVariants.{End}
-use Rattle.q4_record.specs.declared.replay.Replay.{Replay}
 use Rattle.q4_record.specs.declared.replay.Stage.TheVariants as stage
 use Rattle.q4_record.specs.Wide.{IsWideValue}
 use Rattle.q4_record.specs.Record.{Record}
-use Rattle.q4_record.specs.Replay.{replayed, replays, at_base, passed_limit, Stands, AllStand}
+use Rattle.q4_record.specs.Replay.{ReplayState, replayed, replays, at_base, passed_limit, Stands, AllStand}
 use Rattle.q4_record.specs.Written.{row_record, mark_record, next_record}
 use Rattle.q4_record.proofs.Limits.{passes_none, ended_within}
 use Rattle.q4_record.proofs.WrittenBases.{table_of, plain, plain_same, rows_stand, marks_stand, may_next, table_within, none_below as no_marks_below, stand_append}
@@ -157,7 +156,7 @@ base_ends : (table : TableState) (after : ℕ) → after ≤ table.next → IsVa
 base_ends table after after_le valid =
     let columns = table.columns in
     let limit = valid.limit in
-    let start : Replay = record { stage = stage.Rows; table = table_of columns after table.rows [] } in
+    let start : ReplayState = record { stage = stage.Rows; table = table_of columns after table.rows [] } in
     let ms = marks_stand columns after table.rows stage.Rows [] table.marks (table_within table after valid (omega (arith, after_le, limit)) []) valid.marks.each valid.marks.rise tt (no_marks_below table.marks) in
     let end : AllStand (record { stage = ms.last; table = table_of columns after table.rows table.marks }) (next_record table.next ∷ []) = (
       record {

@@ -18,6 +18,7 @@ use Rattle.q4_table.specs.Rows.{without_row, row_in, values_in, bytes_of}
 use Rattle.q4_table.specs.Adding.{add_row}
 use Rattle.q4_table.specs.Valid.{IsValidTable}
 use Rattle.q4_table.proofs.Validity.{valid-removed, bytes-removed}
+use Rattle.q4_table.specs.Owners.{without_owners}
 use Rattle.q4_record.specs.Record.{Record, record_bytes, records_bytes}
 use Rattle.q4_record.specs.Schema.{schema_bytes}
 use Rattle.q4_record.specs.Side.{base_at}
@@ -26,7 +27,7 @@ use Rattle.q4_record.proofs.WrittenBases.{kept}
 use Rattle.q4_disk.specs.Told.{Told}
 use Rattle.q4_store.specs.declared.copying.Progress.{Progress}
 use Rattle.q4_store.specs.Content.{Content, table_of, row_ended, row_added, with_change}
-use Rattle.q4_store.specs.Copied.{without_owners, is_from, rows_from, rows_below, row_cost, cursor_after, taken, compact_size, copy_bytes}
+use Rattle.q4_store.specs.Copied.{is_from, rows_from, rows_below, row_cost, cursor_after, taken, compact_size, copy_bytes}
 use Rattle.q4_store.specs.Store.{Stored, StandsFor, TakesRow, IsLongerBy, finished_length, end_extra, ends_with}
 use Rattle.q4_record.specs.Replay.{at_batches}
 use Rattle.q4_store.proofs.Appending.{gone}

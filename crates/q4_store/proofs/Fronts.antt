@@ -7,10 +7,9 @@ use Rattle.q4_value.specs.declared.column.Column.{Column}
 use Rattle.q4_table.specs.TableState.{TableState}
 use Rattle.q4_record.specs.declared.head.Head.{Head}
 use Rattle.q4_record.specs.declared.head.Head.TheVariants.{Insert, End, Mark, Next}
-use Rattle.q4_record.specs.declared.replay.Replay.{Replay}
 use Rattle.q4_record.specs.declared.replay.Stage.TheVariants as stage
 use Rattle.q4_record.specs.Record.{Record}
-use Rattle.q4_record.specs.Replay.{replayed, replays, at_batches, MayCome, stage_after, AllStand, Stands}
+use Rattle.q4_record.specs.Replay.{ReplayState, replayed, replays, at_batches, MayCome, stage_after, AllStand, Stands}
 use Rattle.q4_store.proofs.Idle.{has_magic}
 use Rattle.q4_record.specs.Side.{side_limit, generation_limit, base_at, gate_of, magic_of, HasMagic, format_of, told_at, generation_of, base_length_of, base_of, behind_base, batch_bytes, batches_bytes, BatchesStand, after_batches, IsBase, HasRoom, OwnSide}
 
@@ -112,25 +111,25 @@ stays table (End number) may = refl
 stays table (Mark source number) may = absurd may
 stays table (Next number) may = absurd may
 
-stays_here : (replay : Replay) (r : Record) → replay.stage ≡ stage.Batch → Stands replay r → (replayed replay r).stage ≡ stage.Batch
+stays_here : (replay : ReplayState) (r : Record) → replay.stage ≡ stage.Batch → Stands replay r → (replayed replay r).stage ≡ stage.Batch
 stays_here replay r is stands = ap (λ s. stage_after s r.head) is ∙ stays replay.table r.head (subst (λ s. MayCome s replay.table r.head) is stands.may)
 
-records_stay : (replay : Replay) (rs : List Record) → replay.stage ≡ stage.Batch → AllStand replay rs → (replays replay rs).stage ≡ stage.Batch
+records_stay : (replay : ReplayState) (rs : List Record) → replay.stage ≡ stage.Batch → AllStand replay rs → (replays replay rs).stage ≡ stage.Batch
 records_stay replay [] is all = is
 records_stay replay (r ∷ rs) is all = records_stay (replayed replay r) rs (stays_here replay r is all.0) all.1
 
-batches_stay : (replay : Replay) (bs : List (List Record)) → replay.stage ≡ stage.Batch → BatchesStand replay bs → (after_batches replay bs).stage ≡ stage.Batch
+batches_stay : (replay : ReplayState) (bs : List (List Record)) → replay.stage ≡ stage.Batch → BatchesStand replay bs → (after_batches replay bs).stage ≡ stage.Batch
 batches_stay replay [] is all = is
 batches_stay replay (b ∷ bs) is all = batches_stay (replays replay b) bs (records_stay replay b is all.0) all.1
 
-at_stage : (replay : Replay) → replay.stage ≡ stage.Batch → replay ≡ at_batches replay.table
+at_stage : (replay : ReplayState) → replay.stage ≡ stage.Batch → replay ≡ at_batches replay.table
 at_stage replay is = λ i. record { stage = is i; table = replay.table }
 
 -- records that stand behind a table lead to the batches behind the next
 pub replays_lead : (table : TableState) (rs : List Record) → AllStand (at_batches table) rs → replays (at_batches table) rs ≡ at_batches (replays (at_batches table) rs).table
 replays_lead table rs all = at_stage (replays (at_batches table) rs) (records_stay (at_batches table) rs refl all)
 
-batches_push : (replay : Replay) (bs : List (List Record)) (b : List Record) → BatchesStand replay bs → AllStand (after_batches replay bs) b → BatchesStand replay (bs ++ b ∷ [])
+batches_push : (replay : ReplayState) (bs : List (List Record)) (b : List Record) → BatchesStand replay bs → AllStand (after_batches replay bs) b → BatchesStand replay (bs ++ b ∷ [])
 batches_push replay [] b all one = (one, tt)
 batches_push replay (a ∷ others) b all one = (all.0, batches_push (replays replay a) others b all.1 one)
 
@@ -202,6 +201,6 @@ parted columns bytes table generation len side =
         batches = w.batches;
         behind = ap (λ (k : ℕ). drop (base_at + k) front) (sym length_same) ∙ drop_at head (batches_bytes w.batches) n head_length;
         stand = r.stand;
-        leads = at_stage (after_batches (at_batches r.base_table) w.batches) (batches_stay (at_batches r.base_table) w.batches refl r.stand) ∙ ap at_batches (ap (λ (replay : Replay). replay.table) (sym r.replay_is) ∙ sym w.table_is);
+        leads = at_stage (after_batches (at_batches r.base_table) w.batches) (batches_stay (at_batches r.base_table) w.batches refl r.stand) ∙ ap at_batches (ap (λ (replay : ReplayState). replay.table) (sym r.replay_is) ∙ sym w.table_is);
       };
     }

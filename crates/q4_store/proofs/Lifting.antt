@@ -6,9 +6,8 @@ use Rattle.q4_value.specs.declared.column.Column.{Column}
 use Rattle.q4_table.specs.TableState.{TableState}
 use Rattle.q4_record.specs.declared.head.Head.{Head}
 use Rattle.q4_record.specs.declared.head.Head.TheVariants.{Insert, End, Mark, Next}
-use Rattle.q4_record.specs.declared.replay.Replay.{Replay}
 use Rattle.q4_record.specs.Record.{Record, records_bytes}
-use Rattle.q4_record.specs.Replay.{table_after, replayed, replays, at_batches, AllStand}
+use Rattle.q4_record.specs.Replay.{ReplayState, table_after, replayed, replays, at_batches, AllStand}
 use Rattle.q4_record.specs.Side.{side_limit, batch_bytes, generation_of, IsOpen, IsNarrow, HasRoom, OwnSide}
 use Rattle.q4_record.proofs.WideSides.{own_is_side, own_not_narrow}
 use Rattle.q4_disk.specs.declared.disk.Side.{Side}
@@ -29,7 +28,7 @@ columns_after table (End number) row = refl
 columns_after table (Mark source number) row = refl
 columns_after table (Next number) row = refl
 
-pub columns_stay : (replay : Replay) (rs : List Record) → (replays replay rs).table.columns ≡ replay.table.columns
+pub columns_stay : (replay : ReplayState) (rs : List Record) → (replays replay rs).table.columns ≡ replay.table.columns
 columns_stay replay [] = refl
 columns_stay replay (r ∷ rs) = columns_stay (replayed replay r) rs ∙ columns_after replay.table r.head r.row
 

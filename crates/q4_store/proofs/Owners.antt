@@ -6,6 +6,7 @@ use Rattle.std.proofs.lemmas.List.Sums.{sum_by-cons}
 use Rattle.q4_value.specs.declared.column.Column.{Column}
 use Rattle.q4_table.specs.declared.rows.StoredRow.{StoredRow}
 use Rattle.q4_table.specs.TableState.{TableState}
+use Rattle.q4_table.specs.Owners.{without_owner, without_owners}
 use Rattle.q4_record.specs.Replay.{at_batches}
 use Rattle.q4_record.specs.Schema.{IsSchema}
 use Rattle.q4_record.specs.Written.{row_record, mark_record, next_record}
@@ -14,7 +15,7 @@ use Rattle.q4_store.specs.Store.{Stored, StandsFor}
 use Rattle.q4_disk.specs.Told.{Told}
 use Rattle.q4_store.proofs.Drafts.{is_schema}
 use Rattle.q4_store.proofs.Lifting.{columns_stay}
-use Rattle.q4_store.specs.Copied.{without_owner, without_owners, is_from, rows_from, row_cost, cursor_after, taken, rest_records}
+use Rattle.q4_store.specs.Copied.{is_from, rows_from, row_cost, cursor_after, taken, rest_records}
 
 one_from : (b : Bool) (r : StoredRow) (xs ys : List StoredRow) → xs ≡ map without_owner ys → cond b (without_owner r ∷ xs) xs ≡ map without_owner (cond b (r ∷ ys) ys)
 one_from true r xs ys same = ap (λ qs. without_owner r ∷ qs) same

@@ -19,11 +19,10 @@ use Rattle.q4_table.specs.Rows.{without_row}
 use Rattle.q4_table.specs.Adding.{add_row}
 use Rattle.q4_record.specs.declared.head.Head.{Head}
 use Rattle.q4_record.specs.declared.head.Head.TheVariants.{Insert, End, Mark, Next}
-use Rattle.q4_record.specs.declared.replay.Replay.{Replay}
 use Rattle.q4_record.specs.declared.replay.Stage.{Stage}
 use Rattle.q4_record.specs.declared.replay.Stage.TheVariants as stage
 use Rattle.q4_record.specs.Record.{Record, record_bytes, records_bytes, row_columns}
-use Rattle.q4_record.specs.Replay.{table_after, stage_after, replayed, replays, at_base, at_batches, AllStand}
+use Rattle.q4_record.specs.Replay.{ReplayState, table_after, stage_after, replayed, replays, at_base, at_batches, AllStand}
 use Rattle.q4_record.specs.Schema.{schema_bytes}
 use Rattle.q4_record.specs.Side.{base_at, base_length_of, batch_bytes, batches_bytes, after_batches, BatchesStand, OwnSide}
 use Rattle.q4_store.specs.Lengths.{change_size}
@@ -83,7 +82,7 @@ adds s table (End number) row = omega (arith, fewer table.columns number table.r
 adds s table (Mark source number) row = omega (arith, one_mark_more source number table.marks)
 adds s table (Next number) row = omega (arith, next_few s)
 
-all_add : (replay : Replay) (rs : List Record) → AllStand replay rs → weight (replays replay rs).table + next_cost (replays replay rs).stage ≤ weight replay.table + next_cost replay.stage + length (records_bytes rs)
+all_add : (replay : ReplayState) (rs : List Record) → AllStand replay rs → weight (replays replay rs).table + next_cost (replays replay rs).stage ≤ weight replay.table + next_cost replay.stage + length (records_bytes rs)
 all_add replay [] stand = omega arith
 all_add replay (r ∷ rs) stand =
     let one = adds replay.stage replay.table r.head r.row in
@@ -99,7 +98,7 @@ table_adds s table (End number) row = let one = adds stage.Batch table (End numb
 table_adds s table (Mark source number) row = let one = adds stage.Batch table (Mark source number) row in omega (arith, one)
 table_adds s table (Next number) row = omega arith
 
-pub tables_add : (replay : Replay) (rs : List Record) → AllStand replay rs → weight (replays replay rs).table ≤ weight replay.table + length (records_bytes rs)
+pub tables_add : (replay : ReplayState) (rs : List Record) → AllStand replay rs → weight (replays replay rs).table ≤ weight replay.table + length (records_bytes rs)
 tables_add replay [] stand = omega arith
 tables_add replay (r ∷ rs) stand =
     let one = table_adds replay.stage replay.table r.head r.row in
@@ -107,14 +106,14 @@ tables_add replay (r ∷ rs) stand =
     let flags = ap optional_count stand.0.is.columns_are in
     omega (arith, one, rest, flags, change_length r, ap length (flat_map-cons record_bytes r rs), length-append (record_bytes r) (records_bytes rs))
 
-batches_add : (replay : Replay) (bs : List (List Record)) → BatchesStand replay bs → weight (after_batches replay bs).table ≤ weight replay.table + length (batches_bytes bs)
+batches_add : (replay : ReplayState) (bs : List (List Record)) → BatchesStand replay bs → weight (after_batches replay bs).table ≤ weight replay.table + length (batches_bytes bs)
 batches_add replay [] stand = omega arith
 batches_add replay (b ∷ bs) stand =
     let one = tables_add replay b stand.0 in
     let rest = batches_add (replays replay b) bs stand.1 in
     omega (arith, one, rest, ap length (flat_map-cons batch_bytes b bs), length-append (batch_bytes b) (batches_bytes bs), length-append (1 ∷ to_be_bytes w32 (length (records_bytes b))) (records_bytes b))
 
-batches_leave : (replay : Replay) (bs : List (List Record)) → (after_batches replay bs).table.columns ≡ replay.table.columns
+batches_leave : (replay : ReplayState) (bs : List (List Record)) → (after_batches replay bs).table.columns ≡ replay.table.columns
 batches_leave replay [] = refl
 batches_leave replay (b ∷ bs) = batches_leave (replays replay b) bs ∙ columns_stay replay b
 
@@ -125,14 +124,14 @@ side_long columns bytes table generation len s =
     let reaches = w.reaches in
     let base = reaches.base in
     let all = all_add (at_base columns) base.records base.stand in
-    let all_is = ap (λ (q : Replay). weight q.table + next_cost q.stage) base.replay_is in
+    let all_is = ap (λ (q : ReplayState). weight q.table + next_cost q.stage) base.replay_is in
     let later = batches_add (at_batches reaches.base_table) w.batches reaches.stand in
-    let later_is = ap (λ (q : Replay). weight q.table) reaches.replay_is in
+    let later_is = ap (λ (q : ReplayState). weight q.table) reaches.replay_is in
     let table_is = ap weight w.table_is in
     let base_is = ap length base.base_is in
     let cut = length-take (base_length_of bytes) (drop base_at bytes) in
-    let base_columns : reaches.base_table.columns ≡ columns = sym (ap (λ (q : Replay). q.table.columns) base.replay_is) ∙ columns_stay (at_base columns) base.records in
-    let columns_are : table.columns ≡ columns = ap (λ (t : TableState). t.columns) w.table_is ∙ ap (λ (q : Replay). q.table.columns) reaches.replay_is ∙ batches_leave (at_batches reaches.base_table) w.batches ∙ base_columns in
+    let base_columns : reaches.base_table.columns ≡ columns = sym (ap (λ (q : ReplayState). q.table.columns) base.replay_is) ∙ columns_stay (at_base columns) base.records in
+    let columns_are : table.columns ≡ columns = ap (λ (t : TableState). t.columns) w.table_is ∙ ap (λ (q : ReplayState). q.table.columns) reaches.replay_is ∙ batches_leave (at_batches reaches.base_table) w.batches ∙ base_columns in
     let schema = ap (λ cs. length (schema_bytes cs)) columns_are in
     omega (arith, all, all_is, later, later_is, table_is, base_is, cut, schema, w.len_is, length-append (schema_bytes columns) (records_bytes base.records))
 

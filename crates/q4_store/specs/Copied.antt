@@ -1,5 +1,5 @@
 -- What a copy of a table has while it is under way: the rows below its cursor, as they are now.
-use Rattle.std.specs.Prelude.{◌≡◌, ◌≢◌, ◌≤◌, ◌+◌, ◌*◌, ℕ, Bool, true, false, List, [], ◌∷◌, ◌++◌, None, map, filter, length, take, nat_lt, nat_le, sum_by, replicate}
+use Rattle.std.specs.Prelude.{◌≡◌, ◌≢◌, ◌≤◌, ◌+◌, ◌*◌, ℕ, Bool, true, false, List, [], ◌∷◌, ◌++◌, map, filter, length, take, nat_lt, nat_le, sum_by, replicate}
 use Rattle.q4_value.specs.declared.column.Column.{Column}
 use Rattle.q4_value.specs.Row.{row_size}
 use Rattle.q4_value.specs.Spelling.{optional_count}
@@ -11,13 +11,6 @@ use Rattle.q4_record.specs.Replay.{replays, at_base, AllStand}
 use Rattle.q4_record.specs.Schema.{schema_bytes}
 use Rattle.q4_record.specs.Side.{base_at}
 use Rattle.q4_record.specs.Written.{row_record, mark_record, next_record}
-
--- a row and a table with the owners left out: what a side says of them
-abbrev pub without_owner : StoredRow → StoredRow
-without_owner r = record { number = r.number; row = r.row; owner = None }
-
-abbrev pub without_owners : TableState → TableState
-without_owners table = record table { rows = map without_owner table.rows }
 
 -- the rows with numbers below a cursor, and those from it on
 abbrev pub is_below : ℕ → StoredRow → Bool

@@ -50,10 +50,10 @@ pub(crate) fn gather(
     most: u32,
     ends: &[u8],
 ) -> Result<Piece, NoMemory>
-    requires schema { IsSchema table.now.columns }
+    requires schema { IsSchema table.now.state.columns }
     requires most { 1 ≤ most }
-    ensures bytes { IfOk result (λ piece. piece.bytes ≡ piece_bytes (progress.at == base_at) table.now.columns ends.now (map (row_record table.now.columns) (taken most progress.cursor table.now))) }
-    ensures cursor { IfOk result (λ piece. piece.cursor ≡ cursor_after progress.cursor (taken most progress.cursor table.now)) }
+    ensures bytes { IfOk result (λ piece. piece.bytes ≡ piece_bytes (progress.at == base_at) table.now.state.columns ends.now (map (row_record table.now.state.columns) (taken most progress.cursor table.now.state))) }
+    ensures cursor { IfOk result (λ piece. piece.cursor ≡ cursor_after progress.cursor (taken most progress.cursor table.now.state)) }
 {
     let mut bytes = Bytes::new(alloc);
     if progress.at == BASE_AT && table.live_from(progress.cursor).is_some() {
@@ -66,8 +66,8 @@ pub(crate) fn gather(
 
 // Puts the records of the next rows from the cursor on, at most so many, and gives the cursor behind them.
 fn put_rows(table: &Table, cursor: u64, most: u32, out: &mut Bytes) -> Result<u64, NoMemory>
-    ensures cursor { IfOk result (λ after. after ≡ cursor_after cursor (taken most cursor table.now)) }
-    ensures put { OnOk result (out.new ≡ out.old ++ records_bytes (map (row_record table.now.columns) (taken most cursor table.now))) }
+    ensures cursor { IfOk result (λ after. after ≡ cursor_after cursor (taken most cursor table.now.state)) }
+    ensures put { OnOk result (out.new ≡ out.old ++ records_bytes (map (row_record table.now.state.columns) (taken most cursor table.now.state))) }
 {
     tables_are_valid(table);
     let mut cursor = cursor;
@@ -88,7 +88,7 @@ fn put_rows(table: &Table, cursor: u64, most: u32, out: &mut Bytes) -> Result<u6
 
 /// Whether no row is left from a cursor on.
 pub(crate) fn none_left(table: &Table, cursor: u64) -> bool
-    ensures { (result ≡ true) ↔ (rows_from cursor table.now.rows ≡ []) }
+    ensures { (result ≡ true) ↔ (rows_from cursor table.now.state.rows ≡ []) }
 {
     tables_are_valid(table);
     table.live_from(cursor).is_none()
@@ -102,8 +102,8 @@ pub(crate) fn gather_rest(
     progress: Progress,
     ends: &[u8],
 ) -> Result<Bytes, NoMemory>
-    requires schema { IsSchema table.now.columns }
-    ensures { IfOk result (λ bytes. bytes ≡ piece_bytes (progress.at == base_at) table.now.columns ends.now (rest_records progress.cursor table.now) ++ 0 ∷ []) }
+    requires schema { IsSchema table.now.state.columns }
+    ensures { IfOk result (λ bytes. bytes ≡ piece_bytes (progress.at == base_at) table.now.state.columns ends.now (rest_records progress.cursor table.now.state) ++ 0 ∷ []) }
 {
     let mut bytes = begin(alloc, table, progress.at == BASE_AT)?;
     bytes.push(ends)?;
@@ -116,8 +116,8 @@ pub(crate) fn gather_rest(
 
 // The schema, where a copy has no record yet, and else nothing.
 fn begin(alloc: Global, table: &Table, bare: bool) -> Result<Bytes, NoMemory>
-    requires schema { IsSchema table.now.columns }
-    ensures { IfOk result (λ bytes. bytes ≡ (if bare then schema_bytes table.now.columns else [])) }
+    requires schema { IsSchema table.now.state.columns }
+    ensures { IfOk result (λ bytes. bytes ≡ (if bare then schema_bytes table.now.state.columns else [])) }
 {
     let mut bytes = Bytes::new(alloc);
     if bare {
@@ -128,7 +128,7 @@ fn begin(alloc: Global, table: &Table, bare: bool) -> Result<Bytes, NoMemory>
 
 // Puts the records of the marks, by rising source.
 fn put_marks(table: &Table, out: &mut Bytes) -> Result<(), NoMemory>
-    ensures { OnOk result (out.new ≡ out.old ++ records_bytes (map mark_record table.now.marks)) }
+    ensures { OnOk result (out.new ≡ out.old ++ records_bytes (map mark_record table.now.state.marks)) }
 {
     tables_are_valid(table);
     for source in 0..64u8 {

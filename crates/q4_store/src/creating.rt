@@ -33,8 +33,8 @@ pub(crate) struct Draft {
 
 /// Makes the bytes of a table, with this generation.
 pub(crate) fn make_draft(alloc: Global, table: &Table, generation: u64) -> Result<Draft, NoMemory>
-    requires { IsSchema table.now.columns }
-    ensures { IfOk result (λ draft. IsDraft table.now generation draft.base draft.header) }
+    requires { IsSchema table.now.state.columns }
+    ensures { IfOk result (λ draft. IsDraft table.now.state generation draft.base draft.header) }
 {
     tables_are_valid(table);
     let start = Progress {

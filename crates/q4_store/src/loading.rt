@@ -44,8 +44,9 @@ pub(crate) fn load<D: Disk>(
     // It asks for the side's size and then for so many bytes.
     ensures device { IfOk result (λ loaded. (n : ℕ) × (IsTrue (D.told disk.old).honest → n ≡ size side (D.told disk.old).bytes) × AllMade D.told (load_calls side n) disk.old disk.new) }
     ensures device_err { IfErr result (λ fault. (n : ℕ) × (IsTrue (D.told disk.old).honest → n ≡ size side (D.told disk.old).bytes) × Stops D.told (load_calls side n) fault disk.old disk.new) }
-    ensures sound { IfOk result (λ loaded. (bytes : List ℕ) × IsLoaded columns.now bytes loaded.table loaded.generation loaded.end loaded.narrow) }
-    ensures loaded { IfOk result (λ loaded. IsTrue (D.told disk.old).honest → IsLoaded columns.now (on side (D.told disk.old).bytes) loaded.table loaded.generation loaded.end loaded.narrow) }
+    ensures sound { IfOk result (λ loaded. (bytes : List ℕ) × IsLoaded columns.now bytes loaded.table.state loaded.generation loaded.end loaded.narrow) }
+    ensures loaded { IfOk result (λ loaded. IsTrue (D.told disk.old).honest → IsLoaded columns.now (on side (D.told disk.old).bytes) loaded.table.state loaded.generation loaded.end loaded.narrow) }
+    ensures kept { IfOk result (λ loaded. loaded.table.kept ≡ []) }
     ensures fails { IfErr result (λ fault. IsTrue (D.told disk.old).honest → IsOpen (on side (D.told disk.old).bytes) → LoadFails columns.now (on side (D.told disk.old).bytes) side fault) }
 {
     let Ok(size) = disk.size(side) else {
@@ -75,8 +76,9 @@ fn load_into<D: Disk>(
     ensures writes { (D.told disk.new).writes ≡ (D.told disk.old).writes }
     ensures device { IfOk result (λ loaded. AllMade D.told (Read side 0 (length bytes.old) ∷ []) disk.old disk.new) }
     ensures device_err { IfErr result (λ fault. Stops D.told (Read side 0 (length bytes.old) ∷ []) fault disk.old disk.new) }
-    ensures sound { IfOk result (λ loaded. (bytes : List ℕ) × IsLoaded columns.now bytes loaded.table loaded.generation loaded.end loaded.narrow) }
-    ensures loaded { IfOk result (λ loaded. IsTrue (D.told disk.old).honest → IsLoaded columns.now (on side (D.told disk.old).bytes) loaded.table loaded.generation loaded.end loaded.narrow) }
+    ensures sound { IfOk result (λ loaded. (bytes : List ℕ) × IsLoaded columns.now bytes loaded.table.state loaded.generation loaded.end loaded.narrow) }
+    ensures loaded { IfOk result (λ loaded. IsTrue (D.told disk.old).honest → IsLoaded columns.now (on side (D.told disk.old).bytes) loaded.table.state loaded.generation loaded.end loaded.narrow) }
+    ensures kept { IfOk result (λ loaded. loaded.table.kept ≡ []) }
     ensures fails { IfErr result (λ fault. IsTrue (D.told disk.old).honest → IsOpen (on side (D.told disk.old).bytes) → LoadFails columns.now (on side (D.told disk.old).bytes) side fault) }
 {
     let Ok(count) = disk.read(side, 0, bytes) else {
@@ -98,7 +100,8 @@ fn zeros(alloc: Global, size: usize) -> Result<Vec<u8>, OpenFault>
 // The table of the bytes of a side that is open.
 fn parse(alloc: Global, side: Side, bytes: &[u8], columns: &Columns) -> Result<Loaded, OpenFault>
     requires { AreColumns columns.now }
-    ensures side { IfOk result (λ loaded. IsLoaded columns.now bytes.now loaded.table loaded.generation loaded.end loaded.narrow) }
+    ensures side { IfOk result (λ loaded. IsLoaded columns.now bytes.now loaded.table.state loaded.generation loaded.end loaded.narrow) }
+    ensures kept { IfOk result (λ loaded. loaded.table.kept ≡ []) }
     ensures no_disk { IfErr result (λ fault. fault ≢ OpenFault.Disk) }
     ensures fails { IfErr result (λ fault. IsOpen bytes.now → LoadFails columns.now bytes.now side fault) }
 {

@@ -29,18 +29,18 @@ pub(crate) fn rewrite<D: Disk>(
     loaded: Loaded,
     held: Held,
 ) -> Result<Found, OpenFault>
-    requires columns { AreColumns loaded.table.columns }
+    requires columns { AreColumns loaded.table.state.columns }
     requires narrow { loaded.narrow ≡ true }
-    requires sound { (bytes : List ℕ) × IsLoaded loaded.table.columns bytes loaded.table loaded.generation loaded.end loaded.narrow }
+    requires sound { (bytes : List ℕ) × IsLoaded loaded.table.state.columns bytes loaded.table.state loaded.generation loaded.end loaded.narrow }
     requires still { IsTrue (D.told disk.old).honest → IsStill (D.told disk.old) }
     requires chosen { IsTrue (D.told disk.old).honest → IsChoice (D.told disk.old).bytes (Choice.Current side known) }
-    requires loaded { IsTrue (D.told disk.old).honest → IsLoaded loaded.table.columns (on side (D.told disk.old).bytes) loaded.table loaded.generation loaded.end loaded.narrow }
+    requires loaded { IsTrue (D.told disk.old).honest → IsLoaded loaded.table.state.columns (on side (D.told disk.old).bytes) loaded.table.state loaded.generation loaded.end loaded.narrow }
     ensures honest { (D.told disk.new).honest ≡ (D.told disk.old).honest }
-    ensures found { IfOk result (λ found. HasFound loaded.table.columns D.told disk.old disk.new found.table found.side found.generation found.end found.known) }
+    ensures found { IfOk result (λ found. HasFound loaded.table.state.columns D.told disk.old disk.new found.table.state found.side found.generation found.end found.known) }
     ensures same { IfOk result (λ found. (found.table ≡ loaded.table) × (found.held ≡ held)) }
-    ensures none { IfErr result (HasFailed loaded.table.columns D.told disk.old disk.new) }
-    ensures device { OnOk result (AllMade D.told (write_calls (other side) known loaded.table (loaded.generation + 1)) disk.old disk.new) }
-    ensures device_err { IfErr result (λ fault. fault ≡ OpenFault.Disk → BrokeOff D.told (write_calls (other side) known loaded.table (loaded.generation + 1)) disk.old disk.new) }
+    ensures none { IfErr result (HasFailed loaded.table.state.columns D.told disk.old disk.new) }
+    ensures device { OnOk result (AllMade D.told (write_calls (other side) known loaded.table.state (loaded.generation + 1)) disk.old disk.new) }
+    ensures device_err { IfErr result (λ fault. fault ≡ OpenFault.Disk → BrokeOff D.told (write_calls (other side) known loaded.table.state (loaded.generation + 1)) disk.old disk.new) }
     // Where memory was wanted it called nothing.
     ensures refused { IfErr result (λ fault. fault ≢ OpenFault.Disk → disk.new ≡ disk.old) }
 {

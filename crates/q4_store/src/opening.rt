@@ -42,8 +42,9 @@ pub(crate) fn find<D: Disk>(
 ) -> Result<Found, OpenFault>
     requires { AreColumns columns.now }
     ensures honest { (D.told disk.new).honest ≡ (D.told disk.old).honest }
-    ensures found { IfOk result (λ found. HasFound columns.now D.told disk.old disk.new found.table found.side found.generation found.end found.known) }
-    ensures held { IfOk result (λ found. IsMemory columns.now (length found.table.rows) found.held.columns found.held.batch found.held.ends.items (vec_capacity found.held.ends)) }
+    ensures found { IfOk result (λ found. HasFound columns.now D.told disk.old disk.new found.table.state found.side found.generation found.end found.known) }
+    ensures kept { IfOk result (λ found. found.table.kept ≡ []) }
+    ensures held { IfOk result (λ found. IsMemory columns.now (length found.table.state.rows) found.held.columns found.held.batch found.held.ends.items (vec_capacity found.held.ends)) }
     ensures none { IfErr result (HasFailed columns.now D.told disk.old disk.new) }
     // Its device calls: those of the look, and those behind it.
     ensures device { OnOk result (HasOpened columns.now D.told disk.old disk.new) }
@@ -68,8 +69,9 @@ fn find_by<D: Disk>(
     requires head_a { IsTrue (D.told disk.old).honest → IsHead (D.told disk.old).bytes.a a }
     requires head_b { IsTrue (D.told disk.old).honest → IsHead (D.told disk.old).bytes.b b }
     ensures honest { (D.told disk.new).honest ≡ (D.told disk.old).honest }
-    ensures found { IfOk result (λ found. HasFound columns.now D.told disk.old disk.new found.table found.side found.generation found.end found.known) }
-    ensures held { IfOk result (λ found. IsMemory columns.now (length found.table.rows) found.held.columns found.held.batch found.held.ends.items (vec_capacity found.held.ends)) }
+    ensures found { IfOk result (λ found. HasFound columns.now D.told disk.old disk.new found.table.state found.side found.generation found.end found.known) }
+    ensures kept { IfOk result (λ found. found.table.kept ≡ []) }
+    ensures held { IfOk result (λ found. IsMemory columns.now (length found.table.state.rows) found.held.columns found.held.batch found.held.ends.items (vec_capacity found.held.ends)) }
     ensures none { IfErr result (HasFailed columns.now D.told disk.old disk.new) }
     ensures device { OnOk result ((calls : List DeviceCall) × IsBehindLook columns.now (D.told disk.old) calls × AllMade D.told calls disk.old disk.new) }
     ensures device_err { IfErr result (λ fault. StopsBehindLook columns.now D.told fault disk.old disk.new) }
@@ -122,8 +124,9 @@ fn find_current<D: Disk>(
     requires still { IsTrue (D.told disk.old).honest → IsStill (D.told disk.old) }
     requires chosen { IsTrue (D.told disk.old).honest → IsChoice (D.told disk.old).bytes (Choice.Current side known) }
     ensures honest { (D.told disk.new).honest ≡ (D.told disk.old).honest }
-    ensures found { IfOk result (λ found. HasFound columns.now D.told disk.old disk.new found.table found.side found.generation found.end found.known) }
-    ensures held { IfOk result (λ found. IsMemory columns.now (length found.table.rows) found.held.columns found.held.batch found.held.ends.items (vec_capacity found.held.ends)) }
+    ensures found { IfOk result (λ found. HasFound columns.now D.told disk.old disk.new found.table.state found.side found.generation found.end found.known) }
+    ensures kept { IfOk result (λ found. found.table.kept ≡ []) }
+    ensures held { IfOk result (λ found. IsMemory columns.now (length found.table.state.rows) found.held.columns found.held.batch found.held.ends.items (vec_capacity found.held.ends)) }
     ensures none { IfErr result (HasFailed columns.now D.told disk.old disk.new) }
     ensures device { OnOk result ((calls : List DeviceCall) × IsBehindLook columns.now (D.told disk.old) calls × AllMade D.told calls disk.old disk.new) }
     ensures device_err { IfErr result (λ fault. StopsBehindLook columns.now D.told fault disk.old disk.new) }
@@ -160,8 +163,9 @@ fn make_new<D: Disk>(
     requires still { IsTrue (D.told disk.old).honest → IsStill (D.told disk.old) }
     requires chosen { IsTrue (D.told disk.old).honest → IsChoice (D.told disk.old).bytes (Choice.Neither known other_known) }
     ensures honest { (D.told disk.new).honest ≡ (D.told disk.old).honest }
-    ensures found { IfOk result (λ found. HasFound columns.now D.told disk.old disk.new found.table found.side found.generation found.end found.known) }
-    ensures held { IfOk result (λ found. IsMemory columns.now (length found.table.rows) found.held.columns found.held.batch found.held.ends.items (vec_capacity found.held.ends)) }
+    ensures found { IfOk result (λ found. HasFound columns.now D.told disk.old disk.new found.table.state found.side found.generation found.end found.known) }
+    ensures kept { IfOk result (λ found. found.table.kept ≡ []) }
+    ensures held { IfOk result (λ found. IsMemory columns.now (length found.table.state.rows) found.held.columns found.held.batch found.held.ends.items (vec_capacity found.held.ends)) }
     ensures none { IfErr result (HasFailed columns.now D.told disk.old disk.new) }
     ensures device { OnOk result ((calls : List DeviceCall) × WritesNew columns.now (D.told disk.old) calls × AllMade D.told calls disk.old disk.new) }
     ensures device_err { IfErr result (λ fault. StopsBehindLook columns.now D.told fault disk.old disk.new) }

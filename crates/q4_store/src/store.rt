@@ -4,6 +4,7 @@ ghost use Rattle.q4_value.specs.Names.{AreColumns};
 ghost use Rattle.q4_value.specs.declared.row.Value.{Value as Field};
 ghost use Rattle.q4_value.specs.Row.{IsRowOf};
 ghost use Rattle.q4_table.specs.Rows.{values_in};
+ghost use Rattle.q4_table.specs.Owners.{without_owners};
 ghost use Rattle.q4_record.specs.Record.{record_bytes};
 ghost use Rattle.q4_record.specs.Side.{side_limit, base_at};
 ghost use Rattle.q4_disk.specs.Told.{Sides, Told};
@@ -18,7 +19,7 @@ ghost use Rattle.q4_store.specs.Commit.{sealed};
 ghost use Rattle.q4_store.specs.Device.{Makes, AllMade, BrokeOff, HasOpened, HasStopped, commit_calls, close_calls, prepare_calls, fill_calls, switch_calls};
 ghost use Rattle.q4_store.specs.CopyCalls.{CountsCopy, is_unsure, piece_calls, last_calls, PieceStops, FinishStops};
 ghost use Rattle.q4_store.specs.Content.{Content, row_added, row_ended, table_of, with_change, all_committed, IsPrefix, IsAllOrNone, IsPrefixOrNew};
-ghost use Rattle.q4_store.specs.Copied.{without_owners, cursor_after, taken, rows_from, compact_size};
+ghost use Rattle.q4_store.specs.Copied.{cursor_after, taken, rows_from, compact_size};
 ghost use Rattle.q4_store.specs.Lengths.{change_size, waiting_size, change_cost};
 ghost use Rattle.q4_store.specs.Store.{StandsFor, StandsUnsure, IsRest, IsUnsure, IsLongerBy, finished_length, end_extra, ends_with, TakesRow, HasRow, IsOver, IsRefused, length_of, cost_of, pending_length, batch_size};
 
@@ -84,13 +85,15 @@ impl<D: Disk> Store<D> {
     pub fn open(alloc: Global, disk: D, def: &TableDef) -> Result<(Store<D>, Table), (OpenFault, D)>
         requires { AreColumns def.now.columns }
         // What is given is what the two sides read as, with a generation greater by one where the schema is narrower.
-        ensures reads { IfOk result (λ opened. IsTrue (D.told disk).honest → Opens def.now.columns (D.told disk).bytes opened.1 opened.0.generation) }
+        ensures reads { IfOk result (λ opened. IsTrue (D.told disk).honest → Opens def.now.columns (D.told disk).bytes opened.1.state opened.0.generation) }
         // Its side is the one that counts, or the other one where the schema of that is narrower, or side A where neither is open.
         ensures side { IfOk result (λ opened. IsTrue (D.told disk).honest → IsChosen def.now.columns (D.told disk).bytes opened.0.side) }
-        ensures stands { IfOk result (λ opened. StandsFor D.told opened.0 (record { committed = opened.1; pending = [] })) }
+        ensures stands { IfOk result (λ opened. StandsFor D.told opened.0 (record { committed = opened.1.state; pending = [] })) }
+        // The table keeps no condition.
+        ensures kept { IfOk result (λ opened. opened.1.kept ≡ []) }
         // Whether the gate of the other side is there and closed is known exactly.
         ensures known { IfOk result (λ opened. IsTrue (D.told disk).honest → (opened.0.known ≡ true) ↔ IsShut (on (other opened.0.side) (D.told disk).bytes)) }
-        ensures fresh { IfOk result (λ opened. (opened.0.columns ≡ def.now.columns) × (opened.0.failed ≡ false) × (opened.0.records ≡ []) × (opened.0.reserved ≡ 0) × (opened.0.copy ≡ None) × (opened.1.columns ≡ def.now.columns)) }
+        ensures fresh { IfOk result (λ opened. (opened.0.columns ≡ def.now.columns) × (opened.0.failed ≡ false) × (opened.0.records ≡ []) × (opened.0.reserved ≡ 0) × (opened.0.copy ≡ None) × (opened.1.state.columns ≡ def.now.columns)) }
         // Whatever the disk tells.
         ensures generation { IfOk result (λ opened. (1 ≤ opened.0.generation) × (opened.0.generation ≤ 2 ^ 62)) }
         // At each moment inside it each image reads as one that there was, or, where the schema of that one's current side is
@@ -101,7 +104,7 @@ impl<D: Disk> Store<D> {
             → LeavesOnly (D.told disk) (D.told refused.1) (ReadsAsOpened def.now.columns (D.told disk).images)) }
         // What is not as it was reads as the very table that is given.
         ensures given { IfOk result (λ opened. IsTrue (D.told disk).honest
-            → LeavesOnly (D.told disk) (D.told opened.0.disk) (ReadsAsGiven def.now.columns opened.1 opened.0.generation (D.told disk).images)) }
+            → LeavesOnly (D.told disk) (D.told opened.0.disk) (ReadsAsGiven def.now.columns opened.1.state opened.0.generation (D.told disk).images)) }
         // Where a side is open, and the schema of the current one is not narrower, it writes nothing, and adds no image.
         ensures rests { IfOk result (λ opened. IsTrue (D.told disk).honest → HasOpen (D.told disk).bytes → (IsOutgrown def.now.columns (D.told disk).bytes → ⊥)
             → OnlyReads (D.told disk) (D.told opened.0.disk)) }
@@ -404,18 +407,18 @@ impl<D: Disk> Store<D> {
     pub fn compact_piece(&mut self, table: &Table, most: u32) -> Result<bool, CopyFault>
         requires copying { IsSome self.old.copy }
         requires whole { self.old.failed ≡ false }
-        requires content { (content : Content) × StandsFor D.told self.old content × (table_of content ≡ without_owners table.now) }
+        requires content { (content : Content) × StandsFor D.told self.old content × (table_of content ≡ without_owners table.now.state) }
         requires most { 1 ≤ most }
         ensures any_moment { (content : Content) → StandsFor D.told self.old content → IsTrue (D.told self.old.disk).honest
             → LeavesOnly (D.told self.old.disk) (D.told self.new.disk) (IsPrefix content self.old.generation) }
         // Whether it fails or not the store stands for the same content, and where it succeeds the copy has come so far.
-        ensures stands { (content : Content) → StandsFor D.told self.old content → table_of content ≡ without_owners table.now → StandsFor D.told self.new content }
-        ensures copied { OnOk result (option_map (λ p. p.cursor) self.new.copy ≡ option_map (λ p. cursor_after p.cursor (taken most p.cursor table.now)) self.old.copy) }
+        ensures stands { (content : Content) → StandsFor D.told self.old content → table_of content ≡ without_owners table.now.state → StandsFor D.told self.new content }
+        ensures copied { OnOk result (option_map (λ p. p.cursor) self.new.copy ≡ option_map (λ p. cursor_after p.cursor (taken most p.cursor table.now.state)) self.old.copy) }
         // Whether no row is left then.
         ensures done { IfOk result (λ done. ForSome self.old.copy (λ progress.
-            (done ≡ true) ↔ (rows_from (cursor_after progress.cursor (taken most progress.cursor table.now)) table.now.rows ≡ []))) }
+            (done ≡ true) ↔ (rows_from (cursor_after progress.cursor (taken most progress.cursor table.now.state)) table.now.state.rows ≡ []))) }
         // It makes the copy neither longer nor shorter than it would be.
-        ensures length { (content : Content) (extra : ℕ) → StandsFor D.told self.old content → table_of content ≡ without_owners table.now
+        ensures length { (content : Content) (extra : ℕ) → StandsFor D.told self.old content → table_of content ≡ without_owners table.now.state
             → IsLongerBy self.old (table_of content) extra → IsLongerBy self.new (table_of content) extra }
         // Where it fails the copy is dropped, and the current side goes on.
         ensures dropped { OnErr result (self.new.copy ≡ None) }
@@ -425,8 +428,8 @@ impl<D: Disk> Store<D> {
         ensures faults { IfErr result (λ fault. CountsCopy fault (D.told self.old.disk).faults (D.told self.new.disk).faults) }
         ensures calm { OnOk result ((D.told self.new.disk).faults ≡ (D.told self.old.disk).faults) }
         // Its device call.
-        ensures device { OnOk result (ForSome self.old.copy (λ progress. AllMade D.told (piece_calls self.old progress most table.now) self.old.disk self.new.disk)) }
-        ensures device_err { IfErr result (λ fault. ForSome self.old.copy (λ progress. PieceStops D.told (piece_calls self.old progress most table.now) fault self.old.disk self.new.disk)) }
+        ensures device { OnOk result (ForSome self.old.copy (λ progress. AllMade D.told (piece_calls self.old progress most table.now.state) self.old.disk self.new.disk)) }
+        ensures device_err { IfErr result (λ fault. ForSome self.old.copy (λ progress. PieceStops D.told (piece_calls self.old progress most table.now.state) fault self.old.disk self.new.disk)) }
         ensures honest { (D.told self.new.disk).honest ≡ (D.told self.old.disk).honest }
     {
         let Some(progress) = self.copy else {
@@ -453,19 +456,19 @@ impl<D: Disk> Store<D> {
     pub fn compact_finish(&mut self, table: &Table) -> Result<u64, CopyFault>
         requires copying { IsSome self.old.copy }
         requires whole { self.old.failed ≡ false }
-        requires content { (content : Content) × StandsFor D.told self.old content × (table_of content ≡ without_owners table.now) }
-        ensures any_moment { (content : Content) → StandsFor D.told self.old content → table_of content ≡ without_owners table.now → IsTrue (D.told self.old.disk).honest
+        requires content { (content : Content) × StandsFor D.told self.old content × (table_of content ≡ without_owners table.now.state) }
+        ensures any_moment { (content : Content) → StandsFor D.told self.old content → table_of content ≡ without_owners table.now.state → IsTrue (D.told self.old.disk).honest
             → LeavesOnly (D.told self.old.disk) (D.told self.new.disk) (IsPrefixOrNew content self.old.generation) }
         // The new table is read at no moment of a finish that is refused before its gate was written.
         ensures before_the_gate { IfErr result (λ fault. fault ≢ CopyFault.Unsure → (content : Content) → StandsFor D.told self.old content → IsTrue (D.told self.old.disk).honest
             → LeavesOnly (D.told self.old.disk) (D.told self.new.disk) (IsPrefix content self.old.generation)) }
         // The new side stands for the table as it is, and nothing waits.
-        ensures stands { OnOk result ((content : Content) → StandsFor D.told self.old content → table_of content ≡ without_owners table.now → StandsFor D.told self.new (all_committed content)) }
+        ensures stands { OnOk result ((content : Content) → StandsFor D.told self.old content → table_of content ≡ without_owners table.now.state → StandsFor D.told self.new (all_committed content)) }
         ensures generation { IfOk result (λ generation. generation ≡ self.old.generation + 1) }
         ensures finished { OnOk result (ForSome self.old.copy (λ progress. self.new ≡ record self.old {
           disk = self.new.disk;
           side = other self.old.side;
-          end = finished_length self.old progress table.now;
+          end = finished_length self.old progress table.now.state;
           generation = self.old.generation + 1;
           records = [];
           reserved = 0;
@@ -476,24 +479,24 @@ impl<D: Disk> Store<D> {
         ensures whole { OnOk result (self.new.failed ≡ false) }
         // It is no longer than before, and as long as the copy would be.
         ensures length { OnOk result (length_of self.new ≤ length_of self.old) }
-        ensures exact { OnOk result ((content : Content) (extra : ℕ) → StandsFor D.told self.old content → table_of content ≡ without_owners table.now → IsLongerBy self.old (table_of content) extra
+        ensures exact { OnOk result ((content : Content) (extra : ℕ) → StandsFor D.told self.old content → table_of content ≡ without_owners table.now.state → IsLongerBy self.old (table_of content) extra
             → length_of self.new ≡ compact_size (table_of content) + extra) }
         // Where it fails the copy is dropped. The store is failed where it is unsure, and else the current side goes on.
         ensures dropped { IfErr result (λ fault. self.new ≡ record self.old { disk = self.new.disk; failed = is_unsure fault; copy = None; ends = [] }) }
-        ensures goes_on { IfErr result (λ fault. fault ≢ CopyFault.Unsure → (content : Content) → StandsFor D.told self.old content → table_of content ≡ without_owners table.now → StandsFor D.told self.new content) }
+        ensures goes_on { IfErr result (λ fault. fault ≢ CopyFault.Unsure → (content : Content) → StandsFor D.told self.old content → table_of content ≡ without_owners table.now.state → StandsFor D.told self.new content) }
         // What a crash leaves where it is unsure.
-        ensures unsure { IfErr result (λ fault. fault ≡ CopyFault.Unsure → (content : Content) → StandsFor D.told self.old content → table_of content ≡ without_owners table.now → IsTrue (D.told self.old.disk).honest
-            → ForSome self.old.copy (λ progress. Within (D.told self.new.disk).images (IsUnsure content self.old.generation (other self.old.side) (finished_length self.old progress table.now)))) }
+        ensures unsure { IfErr result (λ fault. fault ≡ CopyFault.Unsure → (content : Content) → StandsFor D.told self.old content → table_of content ≡ without_owners table.now.state → IsTrue (D.told self.old.disk).honest
+            → ForSome self.old.copy (λ progress. Within (D.told self.new.disk).images (IsUnsure content self.old.generation (other self.old.side) (finished_length self.old progress table.now.state)))) }
         // The same, told by the store as it is then.
         ensures unsure_stands { IfErr result (λ fault. fault ≡ CopyFault.Unsure
             → (content : Content) → StandsFor D.told self.old content
-            → table_of content ≡ without_owners table.now → StandsUnsure D.told self.new content) }
+            → table_of content ≡ without_owners table.now.state → StandsUnsure D.told self.new content) }
         // It is abandoned or unsure exactly where the disk failed.
         ensures faults { IfErr result (λ fault. CountsCopy fault (D.told self.old.disk).faults (D.told self.new.disk).faults) }
         ensures calm { OnOk result ((D.told self.new.disk).faults ≡ (D.told self.old.disk).faults) }
         // Its device calls, in their order.
-        ensures device { OnOk result (ForSome self.old.copy (λ progress. AllMade D.told (last_calls self.old progress table.now ++ switch_calls (other self.old.side)) self.old.disk self.new.disk)) }
-        ensures device_err { IfErr result (λ fault. ForSome self.old.copy (λ progress. FinishStops D.told (last_calls self.old progress table.now) (switch_calls (other self.old.side)) fault self.old.disk self.new.disk)) }
+        ensures device { OnOk result (ForSome self.old.copy (λ progress. AllMade D.told (last_calls self.old progress table.now.state ++ switch_calls (other self.old.side)) self.old.disk self.new.disk)) }
+        ensures device_err { IfErr result (λ fault. ForSome self.old.copy (λ progress. FinishStops D.told (last_calls self.old progress table.now.state) (switch_calls (other self.old.side)) fault self.old.disk self.new.disk)) }
         ensures honest { (D.told self.new.disk).honest ≡ (D.told self.old.disk).honest }
     {
         let Some(progress) = self.copy else {

@@ -2,8 +2,8 @@ ghost use Rattle.std.specs.Prelude.{◌≡◌};
 ghost use Rattle.std.specs.Option.{ForSome};
 ghost use Rattle.q4_value.specs.Row.{Fits};
 ghost use Rattle.q4_table.specs.Adding.{IsOrigin};
+ghost use Rattle.q4_table.specs.Owners.{without_owners};
 ghost use Rattle.q4_store.specs.Content.{Content, table_of};
-ghost use Rattle.q4_store.specs.Copied.{without_owners};
 ghost use Rattle.q4_store.specs.Store.{StandsFor};
 
 use super::acts::{Act, Answer, Want};
@@ -35,7 +35,7 @@ impl<D: Disk> Model for Twin<D> {
 
     ghost view = { λ t. t.whole };
 
-    ghost invariant = { λ t. IsTrue t.whole → (t.store.failed ≡ false) × ((content : Content) × StandsFor D.told t.store content × (table_of content ≡ t.table)) };
+    ghost invariant = { λ t. IsTrue t.whole → (t.store.failed ≡ false) × ((content : Content) × StandsFor D.told t.store content × (table_of content ≡ t.table.state)) };
 }
 
 impl<D: Disk> Twin<D> {
@@ -234,12 +234,12 @@ impl<D: Disk> Twin<D> {
 
 // A law: nobody owns a row of the table that a store stands for.
 fn nobody_owns<D: Disk>(_store: &Store<D>, _table: &Table)
-    ensures { (content : Content) → StandsFor D.told _store.now content → table_of content ≡ _table.now → table_of content ≡ without_owners _table.now }
+    ensures { (content : Content) → StandsFor D.told _store.now content → table_of content ≡ _table.now.state → table_of content ≡ without_owners _table.now.state }
 {}
 
 // A law: a store spells rows by the columns of its table.
 fn same_columns<D: Disk>(_store: &Store<D>, _table: &Table)
-    ensures { (content : Content) → StandsFor D.told _store.now content → table_of content ≡ _table.now → _store.now.columns ≡ _table.now.columns }
+    ensures { (content : Content) → StandsFor D.told _store.now content → table_of content ≡ _table.now.state → _store.now.columns ≡ _table.now.state.columns }
 {}
 
 fn check_origin(rt: &impl Abort, origin: Option<Origin>)

@@ -15,9 +15,9 @@ returns-clause-found g c =
     let columns = c.args.columns.now in
     let told = g.D.Disk.told in
     IfOk-weaker c.find_by.result
-    (λ found. HasFound columns told c.look.new.disk c.find_by.new.disk found.table found.side found.generation found.end found.known)
-    (λ found. HasFound columns told c.args.disk.now c.find_by.new.disk found.table found.side found.generation found.end found.known)
-    (λ found is. found_after columns told c.args.disk.now c.look.new.disk c.find_by.new.disk c.look.ensures.honest c.in-Ok.ensures.faults.stayed c.look.ensures.rests c.look.ensures.writes found.table found.side found.generation found.end found.known is)
+    (λ found. HasFound columns told c.look.new.disk c.find_by.new.disk found.table.state found.side found.generation found.end found.known)
+    (λ found. HasFound columns told c.args.disk.now c.find_by.new.disk found.table.state found.side found.generation found.end found.known)
+    (λ found is. found_after columns told c.args.disk.now c.look.new.disk c.find_by.new.disk c.look.ensures.honest c.in-Ok.ensures.faults.stayed c.look.ensures.rests c.look.ensures.writes found.table.state found.side found.generation found.end found.known is)
     c.find_by.ensures.found
 
 pub returns-clause-none : goal.returns-clause-none

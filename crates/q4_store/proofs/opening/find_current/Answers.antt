@@ -27,7 +27,7 @@ returns-in-Err-clause-none g c =
 pub returns-clause-found : goal.returns-clause-found
 returns-clause-found g c =
     let l = c.in-Ok.loaded in
-    found_current c.args.columns.now g.D.Disk.told c.args.disk.now c.load.new.disk c.load.ensures.rests c.load.ensures.writes c.args.side c.args.known l.table l.generation l.end l.narrow c.requires.columns c.if-loaded.false c.in-Ok.ensures.calm c.requires.still c.requires.chosen c.in-Ok.ensures.sound c.in-Ok.ensures.loaded
+    found_current c.args.columns.now g.D.Disk.told c.args.disk.now c.load.new.disk c.load.ensures.rests c.load.ensures.writes c.args.side c.args.known l.table.state l.generation l.end l.narrow c.requires.columns c.if-loaded.false c.in-Ok.ensures.calm c.requires.still c.requires.chosen c.in-Ok.ensures.sound c.in-Ok.ensures.loaded
 
 pub returns-clause-device : goal.returns-clause-device
 returns-clause-device g c =
@@ -39,35 +39,35 @@ returns-clause-device g c =
 
 module _ (g : given.Over) where
   -- the table has the columns
-  columns_are : (c : goal.In-Ok g) → c.in-Ok.loaded.table.columns ≡ c.args.columns.now
+  columns_are : (c : goal.In-Ok g) → c.in-Ok.loaded.table.state.columns ≡ c.args.columns.now
   columns_are c = ap (λ (t : TableState). t.columns) c.in-Ok.ensures.sound.1.side.table_is
 
-  rewrites : (c : goal.In-Ok g) → c.in-Ok.loaded.narrow ≡ true → Rewrites c.args.columns.now (g.D.Disk.told c.args.disk.now) (load_calls c.args.side c.in-Ok.ensures.device.0 ++ write_calls (other c.args.side) c.args.known c.in-Ok.loaded.table (c.in-Ok.loaded.generation + 1))
+  rewrites : (c : goal.In-Ok g) → c.in-Ok.loaded.narrow ≡ true → Rewrites c.args.columns.now (g.D.Disk.told c.args.disk.now) (load_calls c.args.side c.in-Ok.ensures.device.0 ++ write_calls (other c.args.side) c.args.known c.in-Ok.loaded.table.state (c.in-Ok.loaded.generation + 1))
   rewrites c is =
       let l = c.in-Ok.loaded in
       let told = g.D.Disk.told in
       let same = columns_are c in
-      let sound = subst (λ (cs : List Column). (bytes : List ℕ) × IsLoaded cs bytes l.table l.generation l.end l.narrow) (sym same) c.in-Ok.ensures.sound in
-      let loaded = subst (λ (cs : List Column). IsTrue (told c.args.disk.now).honest → IsLoaded cs (on c.args.side (told c.args.disk.now).bytes) l.table l.generation l.end l.narrow) (sym same) c.in-Ok.ensures.loaded in
-      subst (λ (cs : List Column). Rewrites cs (told c.args.disk.now) (load_calls c.args.side c.in-Ok.ensures.device.0 ++ write_calls (other c.args.side) c.args.known l.table (l.generation + 1))) same
-      (rewritten_calls l.table l.generation l.end l.narrow is (subst AreColumns (sym same) c.requires.columns) sound told c.args.disk.now c.args.side c.args.known c.requires.still c.requires.chosen loaded (other c.args.side) refl c.in-Ok.ensures.device.0 c.in-Ok.ensures.device.1)
+      let sound = subst (λ (cs : List Column). (bytes : List ℕ) × IsLoaded cs bytes l.table.state l.generation l.end l.narrow) (sym same) c.in-Ok.ensures.sound in
+      let loaded = subst (λ (cs : List Column). IsTrue (told c.args.disk.now).honest → IsLoaded cs (on c.args.side (told c.args.disk.now).bytes) l.table.state l.generation l.end l.narrow) (sym same) c.in-Ok.ensures.loaded in
+      subst (λ (cs : List Column). Rewrites cs (told c.args.disk.now) (load_calls c.args.side c.in-Ok.ensures.device.0 ++ write_calls (other c.args.side) c.args.known l.table.state (l.generation + 1))) same
+      (rewritten_calls l.table.state l.generation l.end l.narrow is (subst AreColumns (sym same) c.requires.columns) sound told c.args.disk.now c.args.side c.args.known c.requires.still c.requires.chosen loaded (other c.args.side) refl c.in-Ok.ensures.device.0 c.in-Ok.ensures.device.1)
 
 pub returns-then-loaded-clause-found : goal.returns-then-loaded-clause-found
 returns-then-loaded-clause-found g c =
     let told = g.D.Disk.told in
     let same = columns_are g (goal.at.returns-then-loaded-clause-found g c).In-Ok in
     IfOk-weaker c.rewrite.result
-    (λ found. HasFound c.in-Ok.loaded.table.columns told c.load.new.disk c.rewrite.new.disk found.table found.side found.generation found.end found.known)
-    (λ found. HasFound c.args.columns.now told c.args.disk.now c.rewrite.new.disk found.table found.side found.generation found.end found.known)
-    (λ found is. found_after c.args.columns.now told c.args.disk.now c.load.new.disk c.rewrite.new.disk c.load.ensures.honest c.in-Ok.ensures.calm c.load.ensures.rests c.load.ensures.writes found.table found.side found.generation found.end found.known
-    (subst (λ (cs : List Column). HasFound cs told c.load.new.disk c.rewrite.new.disk found.table found.side found.generation found.end found.known) same is))
+    (λ found. HasFound c.in-Ok.loaded.table.state.columns told c.load.new.disk c.rewrite.new.disk found.table.state found.side found.generation found.end found.known)
+    (λ found. HasFound c.args.columns.now told c.args.disk.now c.rewrite.new.disk found.table.state found.side found.generation found.end found.known)
+    (λ found is. found_after c.args.columns.now told c.args.disk.now c.load.new.disk c.rewrite.new.disk c.load.ensures.honest c.in-Ok.ensures.calm c.load.ensures.rests c.load.ensures.writes found.table.state found.side found.generation found.end found.known
+    (subst (λ (cs : List Column). HasFound cs told c.load.new.disk c.rewrite.new.disk found.table.state found.side found.generation found.end found.known) same is))
     c.rewrite.ensures.found
 
 pub returns-then-loaded-clause-none : goal.returns-then-loaded-clause-none
 returns-then-loaded-clause-none g c =
     let told = g.D.Disk.told in
     let same = columns_are g (goal.at.returns-then-loaded-clause-none g c).In-Ok in
-    IfErr-weaker c.rewrite.result (λ (why : OpenFault). HasFailed c.in-Ok.loaded.table.columns told c.load.new.disk c.rewrite.new.disk why) (λ (why : OpenFault). HasFailed c.args.columns.now told c.args.disk.now c.rewrite.new.disk why)
+    IfErr-weaker c.rewrite.result (λ (why : OpenFault). HasFailed c.in-Ok.loaded.table.state.columns told c.load.new.disk c.rewrite.new.disk why) (λ (why : OpenFault). HasFailed c.args.columns.now told c.args.disk.now c.rewrite.new.disk why)
     (λ why is. failed_after c.args.columns.now told c.args.disk.now c.load.new.disk c.rewrite.new.disk c.load.ensures.honest c.in-Ok.ensures.calm c.load.ensures.rests c.load.ensures.writes why
     (subst (λ (cs : List Column). HasFailed cs told c.load.new.disk c.rewrite.new.disk why) same is))
     c.rewrite.ensures.none
@@ -76,7 +76,7 @@ pub returns-then-loaded-clause-device : goal.returns-then-loaded-clause-device
 returns-then-loaded-clause-device g c =
     let l = c.in-Ok.loaded in
     let loads = c.in-Ok.ensures.device in
-    rewrites_ok g.D.Disk.told c.args.columns.now c.rewrite.result (load_calls c.args.side loads.0) (write_calls (other c.args.side) c.args.known l.table (l.generation + 1)) c.args.disk.now c.load.new.disk c.rewrite.new.disk
+    rewrites_ok g.D.Disk.told c.args.columns.now c.rewrite.result (load_calls c.args.side loads.0) (write_calls (other c.args.side) c.args.known l.table.state (l.generation + 1)) c.args.disk.now c.load.new.disk c.rewrite.new.disk
     (rewrites g (goal.at.returns-then-loaded-clause-device g c).In-Ok c.if-loaded.true) loads.2 c.rewrite.ensures.device
 
 pub returns-then-loaded-clause-device_err : goal.returns-then-loaded-clause-device_err
@@ -84,7 +84,7 @@ returns-then-loaded-clause-device_err g c =
     let l = c.in-Ok.loaded in
     let told = g.D.Disk.told in
     let loads = c.in-Ok.ensures.device in
-    rewrites_err told c.args.columns.now c.rewrite.result (load_calls c.args.side loads.0) (write_calls (other c.args.side) c.args.known l.table (l.generation + 1)) c.args.disk.now c.load.new.disk c.rewrite.new.disk
+    rewrites_err told c.args.columns.now c.rewrite.result (load_calls c.args.side loads.0) (write_calls (other c.args.side) c.args.known l.table.state (l.generation + 1)) c.args.disk.now c.load.new.disk c.rewrite.new.disk
     (current_read (told c.args.disk.now) c.args.side c.args.known loads.0 c.requires.chosen loads.1) (rewrites g (goal.at.returns-then-loaded-clause-device_err g c).In-Ok c.if-loaded.true) loads.2 c.rewrite.ensures.device_err c.rewrite.ensures.refused
 
 pub returns-in-Err-clause-device_err : goal.returns-in-Err-clause-device_err

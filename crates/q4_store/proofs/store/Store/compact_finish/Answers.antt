@@ -1,4 +1,5 @@
 use Rattle.std.proofs.Common.{◌≡◌, ◌==◌, ◌+◌, ◌-◌, ◌++◌, ◌≤◌, ◌*◌, List, ℕ, [], ◌∷◌, IsTrue, true, false, Some, None, Result, Ok, Err, IfErr, OnOk, length, refl, sym, ◌∙◌, ap, subst, inl, arith}
+use Rattle.q4_table.specs.Owners.{without_owners}
 use Rattle.q4_record.specs.Side.{base_at, side_limit}
 use Rattle.q4_disk.specs.Told.{Told}
 use Rattle.q4_disk.specs.Images.{other, Within}
@@ -6,7 +7,7 @@ use Rattle.q4_disk.specs.Time.{LeavesOnly}
 use Rattle.q4_disk.proofs.Moments.{began}
 use Rattle.q4_store.specs.Looking.{header_bytes}
 use Rattle.q4_store.specs.Content.{Content, table_of, IsPrefixOrNew}
-use Rattle.q4_store.specs.Copied.{without_owners, piece_bytes, rest_records}
+use Rattle.q4_store.specs.Copied.{piece_bytes, rest_records}
 use Rattle.q4_store.proofs.Owners.{schema_here, rest_unowned}
 use Rattle.q4_store.specs.Store.{Stored, StandsFor, StandsUnsure, IsRest, IsUnsure, last_bytes, length_of, finished_length}
 use Rattle.q4_store.specs.Device.{DeviceCall, AllMade, fill_calls, switch_calls}
@@ -41,14 +42,14 @@ module _ (g : given.Over) where
   here c content s = subst (λ store. StandsFor g.D.Disk.told store content) (sym c.self.view_is) s
 
   -- what was gathered, by the content
-  rest_is : (c : goal.After-as_slice-last g) (content : Content) → table_of content ≡ without_owners c.args.table.now
+  rest_is : (c : goal.After-as_slice-last g) (content : Content) → table_of content ≡ without_owners c.args.table.now.state
       → c.as_slice-last.result.now ≡ piece_bytes (c.in-Some.progress.at == base_at) (table_of content).columns c.self.inside.ends.items (rest_records c.in-Some.progress.cursor (table_of content)) ++ 0 ∷ []
   rest_is c content same =
       c.as_slice-last.ensures ∙ c.in-Ok.ensures
-      ∙ (λ i. piece_bytes (c.in-Some.progress.at == base_at) c.args.table.now.columns (c.deref.ensures.value i) (sym (rest_unowned c.in-Some.progress.cursor c.args.table.now) i) ++ 0 ∷ [])
+      ∙ (λ i. piece_bytes (c.in-Some.progress.at == base_at) c.args.table.now.state.columns (c.deref.ensures.value i) (sym (rest_unowned c.in-Some.progress.cursor c.args.table.now.state) i) ++ 0 ∷ [])
       ∙ (λ i. piece_bytes (c.in-Some.progress.at == base_at) (sym same i).columns c.self.inside.ends.items (rest_records c.in-Some.progress.cursor (sym same i)) ++ 0 ∷ [])
 
-  is_rest : (c : goal.After-as_slice-last g) (content : Content) (header : List ℕ) → table_of content ≡ without_owners c.args.table.now → header ≡ header_bytes (c.self.inside.generation + 1) (c.in-Some.progress.at + length c.as_slice-last.result.now - 22) → IsRest (view c) c.in-Some.progress content c.as_slice-last.result.now header
+  is_rest : (c : goal.After-as_slice-last g) (content : Content) (header : List ℕ) → table_of content ≡ without_owners c.args.table.now.state → header ≡ header_bytes (c.self.inside.generation + 1) (c.in-Some.progress.at + length c.as_slice-last.result.now - 22) → IsRest (view c) c.in-Some.progress content c.as_slice-last.result.now header
   is_rest c content header same is = record { last_is = rest_is c content same; header_is = is }
 
   whole : (c : goal.After-as_slice-last g) → c.self.inside.failed ≡ false
@@ -63,7 +64,7 @@ module _ (g : given.Over) where
       end_few g.D.Disk.told _ content (here c content c.requires.content.1) c.in-Some.progress c.in-Some.is c.self.invariant.kept.room (whole c) c.as_slice-last.result.now (header c) (is_rest c content (header c) c.requires.content.2 refl)
 
 pub gather_rest-requires : goal.gather_rest-requires
-gather_rest-requires g c = record { schema = schema_here g.D.Disk.told c.args.self.now c.requires.content.0 c.args.table.now c.requires.content.1 c.requires.content.2 }
+gather_rest-requires g c = record { schema = schema_here g.D.Disk.told c.args.self.now c.requires.content.0 c.args.table.now.state c.requires.content.1 c.requires.content.2 }
 
 pub overflow_add-length : goal.overflow_add-length
 overflow_add-length g c =
@@ -117,28 +118,28 @@ module _ (g : given.Over) where
   progress_is c progress is = same_some (sym c.in-Some.is ∙ (ap (λ (store : Stored g.row.D.Denot). store.copy) c.self.view_is ∙ is))
 
   -- what was gathered, by the store as it was given
-  last_here : (c : goal.After-as_slice-last g) (progress : Progress) → c.args.self.now.copy ≡ Some progress → c.as_slice-last.result.now ≡ last_bytes c.args.self.now progress c.args.table.now
+  last_here : (c : goal.After-as_slice-last g) (progress : Progress) → c.args.self.now.copy ≡ Some progress → c.as_slice-last.result.now ≡ last_bytes c.args.self.now progress c.args.table.now.state
   last_here c progress is =
       c.as_slice-last.ensures ∙ c.in-Ok.ensures
-      ∙ ap (λ (ends : List ℕ). piece_bytes (c.in-Some.progress.at == base_at) c.args.table.now.columns ends (rest_records c.in-Some.progress.cursor c.args.table.now) ++ 0 ∷ []) c.deref.ensures.value
-      ∙ (λ i. last_bytes (c.self.view_is i) (progress_is c progress is i) c.args.table.now)
+      ∙ ap (λ (ends : List ℕ). piece_bytes (c.in-Some.progress.at == base_at) c.args.table.now.state.columns ends (rest_records c.in-Some.progress.cursor c.args.table.now.state) ++ 0 ∷ []) c.deref.ensures.value
+      ∙ (λ i. last_bytes (c.self.view_is i) (progress_is c progress is i) c.args.table.now.state)
 
   -- how long the side will be
-  end_here : (c : goal.After-as_slice-last g) (progress : Progress) → c.args.self.now.copy ≡ Some progress → c.in-Some.progress.at + length c.as_slice-last.result.now ≡ finished_length c.args.self.now progress c.args.table.now
+  end_here : (c : goal.After-as_slice-last g) (progress : Progress) → c.args.self.now.copy ≡ Some progress → c.in-Some.progress.at + length c.as_slice-last.result.now ≡ finished_length c.args.self.now progress c.args.table.now.state
   end_here c progress is =
-      let long = rest_long (progress.at == base_at) c.args.table.now.columns progress.cursor c.args.table.now c.args.self.now.ends (last_bytes c.args.self.now progress c.args.table.now) refl in
+      let long = rest_long (progress.at == base_at) c.args.table.now.state.columns progress.cursor c.args.table.now.state c.args.self.now.ends (last_bytes c.args.self.now progress c.args.table.now.state) refl in
       let at = ap (λ (p : Progress). p.at) (progress_is c progress is) in
       let last = ap length (last_here c progress is) in
       omega (arith, at, last, long)
 
   header_here : (c : goal.After-finish g) (progress : Progress) → c.args.self.now.copy ≡ Some progress
-      → c.header_of-header.result ≡ header_bytes (c.args.self.now.generation + 1) (progress.at + length (last_bytes c.args.self.now progress c.args.table.now) - 22)
+      → c.header_of-header.result ≡ header_bytes (c.args.self.now.generation + 1) (progress.at + length (last_bytes c.args.self.now progress c.args.table.now.state) - 22)
   header_here c progress is =
       let a = (goal.at.After-finish g c).After-as_slice-last in
       c.header_of-header.ensures ∙ (λ i. header_bytes ((c.self.view_is i).generation + 1) ((progress_is a progress is i).at + length (last_here a progress is i) - 22))
 
 module _ (g : given.Over) where
-  rest_given : (c : goal.After-header_of-header g) (content : Content) → table_of content ≡ without_owners c.args.table.now → IsRest c.args.self.now c.in-Some.progress content c.as_slice-last.result.now c.header_of-header.result
+  rest_given : (c : goal.After-header_of-header g) (content : Content) → table_of content ≡ without_owners c.args.table.now.state → IsRest c.args.self.now c.in-Some.progress content c.as_slice-last.result.now c.header_of-header.result
   rest_given c content same =
       subst (λ store. IsRest store c.in-Some.progress content c.as_slice-last.result.now c.header_of-header.result) c.self.view_is (is_rest g (goal.at.After-header_of-header g c).After-as_slice-last content c.header_of-header.result same c.header_of-header.ensures)
 
@@ -196,7 +197,7 @@ returns-clause-exact g c =
     let is = sym (ap (λ (store : Stored g.row.D.Denot). store.copy) c.self.view_is) ∙ c.in-Some.is in
     let end : length_of c.finish.new.self ≡ progress.at + length c.as_slice-last.result.now + 0 = ap length_of finished in
     let told = end_here g a progress is in
-    let owners = finished_unowned c.args.self.now progress c.args.table.now in
+    let owners = finished_unowned c.args.self.now progress c.args.table.now.state in
     let here = longer progress is in
     let there = ap (finished_length c.args.self.now progress) same in
     omega (arith, end, told, owners, here, there)) c.finish.ensures.finished

@@ -3,6 +3,7 @@ use Rattle.std.specs.Prelude.{◌==◌, ◌↔◌}
 use Rattle.q4_store.specs.declared.copying.Progress.{Progress}
 use Rattle.q4_value.specs.declared.column.Column.{Column}
 use Rattle.q4_table.specs.TableState.{TableState}
+use Rattle.q4_table.specs.Owners.{without_owners}
 use Rattle.q4_record.specs.Side.{base_at}
 use Rattle.q4_record.specs.Written.{row_record}
 use Rattle.q4_disk.specs.Images.{on, other, size, Within}
@@ -10,7 +11,7 @@ use Rattle.q4_disk.specs.Time.{LeavesOnly, OtherStays}
 use Rattle.q4_store.specs.Parts.{IsShut}
 use Rattle.q4_store.specs.Reading.{ReadsAs}
 use Rattle.q4_store.specs.Content.{Content, IsPrefix, table_of}
-use Rattle.q4_store.specs.Copied.{without_owners, piece_bytes, taken, cursor_after, rows_from}
+use Rattle.q4_store.specs.Copied.{piece_bytes, taken, cursor_after, rows_from}
 use Rattle.q4_store.specs.Store.{Stored, StandsFor, IsLongerBy}
 use Rattle.q4_store.specs.Device.{DeviceCall, AllMade, BrokeOff, extend_calls}
 use Rattle.q4_store.specs.CopyCalls.{piece_calls}
@@ -23,7 +24,7 @@ use Rattle.q4_store.proofs.store.Store.compact_piece.Goals as goal
 use Rattle.q4_store.proofs.store.Store.compact_piece.Goals.{After-extend_by, In-Ok-extend_by}
 
 pub gather-gathered-requires-clause-schema : goal.gather-gathered-requires-clause-schema
-gather-gathered-requires-clause-schema g c = schema_here g.D.Disk.told c.args.self.now c.requires.content.0 c.args.table.now c.requires.content.1 c.requires.content.2
+gather-gathered-requires-clause-schema g c = schema_here g.D.Disk.told c.args.self.now c.requires.content.0 c.args.table.now.state c.requires.content.1 c.requires.content.2
 
 pub extend_by-requires-clause-behind : goal.extend_by-requires-clause-behind
 extend_by-requires-clause-behind g c = copy_late g.D.Disk.told _ c.requires.content.0 (subst (λ store. StandsFor g.D.Disk.told store c.requires.content.0) (sym c.self.view_is) c.requires.content.1) c.in-Some.progress c.in-Some.is
@@ -72,10 +73,10 @@ module _ (g : given.Over) where
       (λ h. extended_moments g.D.Disk.told _ content (here c content s) c.in-Some.progress c.in-Some.is c.extend_by.new.disk (whole c) c.extend_by.ensures.honest h (run c))
 
   -- what was gathered, by the content
-  gathered : (c : goal.After-extend_by g) (content : Content) (s : StandsFor g.D.Disk.told c.args.self.now content) → table_of content ≡ without_owners c.args.table.now → c.as_slice-more.result.now ≡ piece g.D.Disk.told _ content (here c content s) c.in-Some.progress c.in-Some.is c.args.most
+  gathered : (c : goal.After-extend_by g) (content : Content) (s : StandsFor g.D.Disk.told c.args.self.now content) → table_of content ≡ without_owners c.args.table.now.state → c.as_slice-more.result.now ≡ piece g.D.Disk.told _ content (here c content s) c.in-Some.progress c.in-Some.is c.args.most
   gathered c content s same =
       c.as_slice-more.ensures ∙ c.in-Ok.ensures.bytes
-      ∙ (λ i. piece_bytes (c.in-Some.progress.at == base_at) c.args.table.now.columns (c.deref.ensures.value i) (sym (piece_unowned c.args.most c.in-Some.progress.cursor c.args.table.now) i))
+      ∙ (λ i. piece_bytes (c.in-Some.progress.at == base_at) c.args.table.now.state.columns (c.deref.ensures.value i) (sym (piece_unowned c.args.most c.in-Some.progress.cursor c.args.table.now.state) i))
       ∙ (λ i. piece_bytes (c.in-Some.progress.at == base_at) (sym same i).columns c.self.inside.ends.items (map (row_record (sym same i).columns) (taken c.args.most c.in-Some.progress.cursor (sym same i))))
 
 pub returns-in_default-extend_by-clause-any_moment : goal.returns-in_default-extend_by-clause-any_moment
@@ -104,7 +105,7 @@ returns-clause-stands g c content s same =
     extended_stands told _ content (here g a content s) c.in-Some.progress c.in-Some.is c.extend_by.new.disk (Some (record { cursor = c.in-Ok.piece.cursor; at = c.in-Some.progress.at + length c.as_slice-more.result.now })) c.truncate.new.self.items (whole g a) c.extend_by.ensures.honest
     (g.met.D.Disk.counts_now c.extend_by.new.disk) (g.met.D.Disk.reads_image c.extend_by.new.disk) (run g a) (shut_then g a) (stays g a)
     (piece_carried told _ content (here g a content s) c.in-Some.progress c.in-Some.is c.args.most c.extend_by.new.disk c.truncate.new.self.items c.as_slice-more.result.now c.in-Ok.piece.cursor c.extend_by.ensures.honest c.truncate.ensures.items
-    (c.in-Ok.ensures.cursor ∙ sym (cursor_unowned c.args.most c.in-Some.progress.cursor c.args.table.now) ∙ ap (λ (t : TableState). cursor_after c.in-Some.progress.cursor (taken c.args.most c.in-Some.progress.cursor t)) (sym same)) (gathered g a content s same)
+    (c.in-Ok.ensures.cursor ∙ sym (cursor_unowned c.args.most c.in-Some.progress.cursor c.args.table.now.state) ∙ ap (λ (t : TableState). cursor_after c.in-Some.progress.cursor (taken c.args.most c.in-Some.progress.cursor t)) (sym same)) (gathered g a content s same)
     (subst (λ side. IsTrue (told c.self.inside.disk).honest → on side (told c.extend_by.new.disk).bytes ≡ on side (told c.self.inside.disk).bytes ++ c.as_slice-more.result.now) c.other_of.ensures c.in-Ok-extend_by.ensures.bytes))
 
 same_some : {one two : Progress} → Some one ≡ Some two → one ≡ two
@@ -115,7 +116,7 @@ not_some P progress wrong = absurd (cc wrong)
 
 pub returns-clause-done : goal.returns-clause-done
 returns-clause-done g c progress is =
-    let table = c.args.table.now in
+    let table = c.args.table.now.state in
     let here : c.in-Some.progress ≡ progress = same_some (sym c.in-Some.is ∙ (ap (λ (store : Stored g.row.D.Denot). store.copy) c.self.view_is ∙ is)) in
     let cursor_is = c.in-Ok.ensures.cursor ∙ ap (λ (p : Progress). cursor_after p.cursor (taken c.args.most p.cursor table)) here in
     subst (λ n. (c.none_left.result ≡ true) ↔ (rows_from n table.rows ≡ [])) cursor_is c.none_left.ensures
@@ -124,7 +125,7 @@ pub returns-clause-length : goal.returns-clause-length
 returns-clause-length g c content extra s same longer =
     let a = (goal.at.returns-clause-length g c).After-extend_by in
     piece_longer g.D.Disk.told _ content (here g a content s) c.in-Some.progress c.in-Some.is c.args.most (record (view g a) { disk = c.extend_by.new.disk; copy = Some (record { cursor = c.in-Ok.piece.cursor; at = c.in-Some.progress.at + length c.as_slice-more.result.now }); ends = c.truncate.new.self.items }) c.in-Ok.piece.cursor extra c.as_slice-more.result.now
-    (c.in-Ok.ensures.cursor ∙ sym (cursor_unowned c.args.most c.in-Some.progress.cursor c.args.table.now) ∙ ap (λ (t : TableState). cursor_after c.in-Some.progress.cursor (taken c.args.most c.in-Some.progress.cursor t)) (sym same))
+    (c.in-Ok.ensures.cursor ∙ sym (cursor_unowned c.args.most c.in-Some.progress.cursor c.args.table.now.state) ∙ ap (λ (t : TableState). cursor_after c.in-Some.progress.cursor (taken c.args.most c.in-Some.progress.cursor t)) (sym same))
     (gathered g a content s same) refl c.truncate.ensures.items (subst (λ (store : Stored g.row.D.Denot). IsLongerBy store (table_of content) extra) (sym c.self.view_is) longer)
 
 pub returns-in_default-gathered-clause-length : goal.returns-in_default-gathered-clause-length
@@ -136,19 +137,19 @@ returns-in_default-extend_by-clause-length g c content extra s same longer progr
 module _ (g : given.Over) where
   -- the bytes of a piece, by the store as it was given
   piece_here : (c : goal.After-extend_by g) (progress : Progress) → c.args.self.now.copy ≡ Some progress
-      → extend_calls c.other_of.result c.in-Some.progress.at c.as_slice-more.result.now ≡ piece_calls c.args.self.now progress c.args.most c.args.table.now
+      → extend_calls c.other_of.result c.in-Some.progress.at c.as_slice-more.result.now ≡ piece_calls c.args.self.now progress c.args.most c.args.table.now.state
   piece_here c progress is =
       let same : c.in-Some.progress ≡ progress = same_some (sym c.in-Some.is ∙ (ap (λ (store : Stored g.row.D.Denot). store.copy) c.self.view_is ∙ is)) in
-      let bytes = c.as_slice-more.ensures ∙ c.in-Ok.ensures.bytes ∙ ap (λ (ends : List ℕ). piece_bytes (c.in-Some.progress.at == base_at) c.args.table.now.columns ends (map (row_record c.args.table.now.columns) (taken c.args.most c.in-Some.progress.cursor c.args.table.now))) c.deref.ensures.value in
+      let bytes = c.as_slice-more.ensures ∙ c.in-Ok.ensures.bytes ∙ ap (λ (ends : List ℕ). piece_bytes (c.in-Some.progress.at == base_at) c.args.table.now.state.columns ends (map (row_record c.args.table.now.state.columns) (taken c.args.most c.in-Some.progress.cursor c.args.table.now.state))) c.deref.ensures.value in
       (λ i. extend_calls (c.other_of.ensures i) c.in-Some.progress.at (bytes i))
-      ∙ (λ i. piece_calls (c.self.view_is i) (same i) c.args.most c.args.table.now)
+      ∙ (λ i. piece_calls (c.self.view_is i) (same i) c.args.most c.args.table.now.state)
 
 pub returns-clause-device : goal.returns-clause-device
 returns-clause-device g c progress is =
-    subst (λ (store : Stored g.row.D.Denot). AllMade g.D.Disk.told (piece_calls c.args.self.now progress c.args.most c.args.table.now) store.disk c.extend_by.new.disk) c.self.view_is
+    subst (λ (store : Stored g.row.D.Denot). AllMade g.D.Disk.told (piece_calls c.args.self.now progress c.args.most c.args.table.now.state) store.disk c.extend_by.new.disk) c.self.view_is
     (subst (λ (calls : List DeviceCall). AllMade g.D.Disk.told calls c.self.inside.disk c.extend_by.new.disk) (piece_here g (goal.at.returns-clause-device g c).After-extend_by progress is) c.in-Ok-extend_by.ensures.device)
 
 pub returns-in_default-extend_by-clause-device_err : goal.returns-in_default-extend_by-clause-device_err
 returns-in_default-extend_by-clause-device_err g c progress is =
-    subst (λ (store : Stored g.row.D.Denot). BrokeOff g.D.Disk.told (piece_calls c.args.self.now progress c.args.most c.args.table.now) store.disk c.extend_by.new.disk) c.self.view_is
+    subst (λ (store : Stored g.row.D.Denot). BrokeOff g.D.Disk.told (piece_calls c.args.self.now progress c.args.most c.args.table.now.state) store.disk c.extend_by.new.disk) c.self.view_is
     (subst (λ (calls : List DeviceCall). BrokeOff g.D.Disk.told calls c.self.inside.disk c.extend_by.new.disk) (piece_here g (goal.at.returns-in_default-extend_by-clause-device_err g c).After-extend_by progress is) c.in_default-extend_by.ensures.device)
