@@ -12,7 +12,7 @@ use Rattle.q4_def.specs.declared.table_def.TableDef.{TableDef}
 use Rattle.q4_machine.specs.declared.session.SessionMode.{SessionMode}
 use Rattle.q4_machine.specs.declared.session.SessionMode.TheVariants.{NonOwner, Empty, Owner}
 use Rattle.q4_machine.specs.declared.looks.Listed.{Listed}
-use Rattle.q4_machine.specs.declared.tables.Opening.{Opening}
+use Rattle.q4_machine.specs.Opening.{Opening}
 use Rattle.q4_machine.specs.declared.entry.Call.{Call}
 use Rattle.q4_machine.specs.declared.entry.Call.TheVariants.{Opened, Open, Insert, Look, End, Abort, RowId, Select, Close, Sync}
 use Rattle.q4_machine.specs.Definitions.{definition_of, definitions, columns_at, IsListed}

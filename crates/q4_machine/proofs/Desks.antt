@@ -15,6 +15,7 @@ use Rattle.q4_machine.specs.declared.session.SessionMode.{SessionMode}
 use Rattle.q4_machine.specs.declared.session.SessionMode.TheVariants.{NonOwner, Empty, Owner}
 use Rattle.q4_machine.specs.declared.shown.NumberedRow.{NumberedRow}
 use Rattle.q4_machine.specs.Machine.{mode_of}
+use Rattle.q4_table.specs.Cursors.{Cursor}
 use Rattle.q4_table.specs.declared.adding.Added.TheVariants.{Seen}
 use Rattle.q4_machine.specs.declared.looks.Listed.{Listed}
 use Rattle.q4_machine.specs.declared.desk.DeskFault.{DeskFault}
@@ -362,14 +363,14 @@ begins_same defs old new begins same = (begins.0, same ∙ begins.1)
 
 -- ## As the desk's clauses say it
 
-pub part_for : (d : DeskState) (seen : List Entry) (current : Option ℕ) (session : ℕ) (seen' : List Entry) (call : Call) (answer : Answer) → record { seen = seen; current = current } ≡ d → current ≡ Some session
+pub part_for : {kept : List (List Cursor)} → (d : DeskState) (seen : List Entry) (current : Option ℕ) (session : ℕ) (seen' : List Entry) (call : Call) (answer : Answer) → record { seen = seen; current = current; kept = kept } ≡ d → current ≡ Some session
     → Grows seen seen' (λ grown. IsPart entry_limit seen grown 0 session call answer) → (s : ℕ) → d.current ≡ Some s → Grows d.seen seen' (λ grown. IsPart entry_limit d.seen grown 0 s call answer)
 part_for d seen current session seen' call answer view is part =
     subst (λ (x : DeskState). (s : ℕ) → x.current ≡ Some s → Grows x.seen seen' (λ grown. IsPart entry_limit x.seen grown 0 s call answer)) view
     (λ s here. subst (λ k. Grows seen seen' (λ grown. IsPart entry_limit seen grown 0 k call answer)) (some_of session s (sym is ∙ here)) part)
 
 -- the part of a call that did not begin
-pub fault_for : (d : DeskState) (seen : List Entry) (current : Option ℕ) (seen' : List Entry) (call : Call) (f : DeskFault) → record { seen = seen; current = current } ≡ d → seen' ≡ seen
+pub fault_for : {kept : List (List Cursor)} → (d : DeskState) (seen : List Entry) (current : Option ℕ) (seen' : List Entry) (call : Call) (f : DeskFault) → record { seen = seen; current = current; kept = kept } ≡ d → seen' ≡ seen
     → (f ≡ desk_fault.Memory) ⊎ ((f ≡ desk_fault.Worn (length seen)) × IsWorn entry_limit seen) → (s : ℕ) → d.current ≡ Some s → Grows d.seen seen' (λ grown. IsPart entry_limit d.seen grown 0 s call (fault_answer f))
 fault_for d seen current seen' call f view same why s is =
     subst (λ (x : DeskState). Grows x.seen seen' (λ grown. IsPart entry_limit x.seen grown 0 s call (fault_answer f))) view (fault_part seen seen' s call f same why)
@@ -432,7 +433,7 @@ closed_desk r1 r2 current s desk is first sound =
       (a ∷ [], grew, refl),
     )
 
-pub closed_for : (d : DeskState) (seen : List Entry) (current : Option ℕ) (session : ℕ) (seen' : List Entry) → record { seen = seen; current = current } ≡ d → current ≡ Some session → Grows seen seen' (λ grown. IsClosed 0 session grown)
+pub closed_for : {kept : List (List Cursor)} → (d : DeskState) (seen : List Entry) (current : Option ℕ) (session : ℕ) (seen' : List Entry) → record { seen = seen; current = current; kept = kept } ≡ d → current ≡ Some session → Grows seen seen' (λ grown. IsClosed 0 session grown)
     → (s : ℕ) → d.current ≡ Some s → Grows d.seen seen' (λ grown. IsClosed 0 s grown)
 closed_for d seen current session seen' view is closing =
     subst (λ (x : DeskState). (s : ℕ) → x.current ≡ Some s → Grows x.seen seen' (λ grown. IsClosed 0 s grown)) view

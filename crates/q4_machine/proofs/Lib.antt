@@ -1,7 +1,10 @@
 pub mod Validity
 pub mod Steps
 pub mod Defined
+pub mod KeptTables
 pub mod Picks
+pub mod Asking
+pub mod Keeping
 pub mod Looking
 pub mod Inserting
 pub mod Histories

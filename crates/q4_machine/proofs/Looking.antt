@@ -17,7 +17,7 @@ use Rattle.q4_table.specs.Adding.{check_of}
 use Rattle.q4_table.specs.Oldest.{IsFree, IsOldest}
 use Rattle.q4_machine.specs.declared.looks.Listed.{Listed}
 use Rattle.q4_machine.specs.declared.session.SessionMode.TheVariants.{NonOwner, Empty, Owner}
-use Rattle.q4_machine.specs.declared.tables.Opening.{Opening}
+use Rattle.q4_machine.specs.Opening.{Opening}
 use Rattle.q4_machine.specs.declared.entry.Call.{Call}
 use Rattle.q4_machine.specs.declared.entry.Call.TheVariants.{Opened, Open, Insert, Look, End, Abort, RowId, Select, Close, Sync}
 use Rattle.q4_machine.specs.Definitions.{definitions, IsRowFor, IsListed}
@@ -129,10 +129,6 @@ look_answers m s list valid may = look_answers_from m s list (pick m list) refl 
 
 -- ## As the code finds it
 
--- a table that was read by its place
-pub indexed : (tables : List Opening) (place : ℕ) (opening : Opening) → place < length tables → opening ≡ get_or tables place opening → opening ≡ opening_at tables place
-indexed tables place opening inside is = is ∙ get_or_default tables place opening no_table inside
-
 owner_some : (o : Option ℕ) (s : ℕ) → o ≡ Some s → IsSome o
 owner_some None s is = absurd (none_some s is)
 owner_some (Some x) s is = refl
@@ -147,5 +143,5 @@ owner_there None s is = absurd (none_some s is)
 owner_there (Some r) s is = refl
 
 -- what the search of the list found, as a pick of the machine
-pub found_pick : (m : MachineState) (tables : List Opening) (list read : List Listed) (o : Option Picked) → tables ≡ m.tables → read ≡ list → o ≡ pick_from tables 1 read → pick m list ≡ o
-found_pick m tables list read o same_tables same_list is = sym (is ∙ ap (λ ts. pick_from ts 1 read) same_tables ∙ ap (λ l. pick_from m.tables 1 l) same_list)
+pub found_pick : (m : MachineState) (list read : List Listed) (o : Option Picked) → read ≡ list → o ≡ pick_from m.tables 1 read → pick m list ≡ o
+found_pick m list read o same is = sym (is ∙ ap (λ l. pick_from m.tables 1 l) same)

@@ -9,7 +9,7 @@ use Rattle.q4_table.specs.declared.rows.StoredRow.{StoredRow}
 use Rattle.q4_table.specs.TableState.{new_table}
 use Rattle.q4_table.specs.Valid.{IsValidTable, IsMark}
 use Rattle.q4_machine.specs.declared.entry.Entry.{Entry}
-use Rattle.q4_machine.specs.declared.tables.Opening.{Opening}
+use Rattle.q4_machine.specs.Opening.{Opening}
 use Rattle.q4_machine.specs.Definitions.{definition_of}
 use Rattle.q4_machine.specs.Valid.{AreValidTables}
 use Rattle.q4_machine.specs.History.{AreUnowned}

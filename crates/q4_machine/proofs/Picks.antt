@@ -3,7 +3,7 @@ use Rattle.std.proofs.Common.{◌≡◌, ◌+◌, ◌++◌, ◌∷◌, [], List,
 use Rattle.std.proofs.lemmas.List.Elements.{All-nil, All-cons, All-head, All-tail, All-weaker, All-get_or}
 use Rattle.q4_table.specs.Oldest.{oldest_meeting, TakesOldest}
 use Rattle.q4_machine.specs.declared.looks.Listed.{Listed}
-use Rattle.q4_machine.specs.declared.tables.Opening.{Opening}
+use Rattle.q4_machine.specs.Opening.{Opening}
 use Rattle.q4_machine.specs.Definitions.{definitions, IsListed}
 use Rattle.q4_machine.specs.Machine.{no_table, table_at}
 use Rattle.q4_machine.specs.Pick.{Picked, pick_or, pick_from}

@@ -11,7 +11,7 @@ use Rattle.q4_machine.specs.declared.entry.Call.TheVariants.{Opened, Look}
 use Rattle.q4_table.specs.declared.rows.StoredRow.{StoredRow}
 use Rattle.q4_table.specs.Rows.{row_in}
 use Rattle.q4_machine.specs.declared.looks.Listed.{Listed}
-use Rattle.q4_machine.specs.declared.tables.Opening.{Opening}
+use Rattle.q4_machine.specs.Opening.{Opening}
 use Rattle.q4_machine.specs.Machine.{MachineState, no_table, table_at}
 use Rattle.q4_machine.specs.Step.{step, MayStep}
 use Rattle.q4_machine.specs.Valid.{AreValidTables, IsValid}

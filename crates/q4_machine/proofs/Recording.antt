@@ -1,6 +1,7 @@
 -- One more entry of a machine that records its history.
 use Rattle.std.proofs.Common.{◌≡◌, ◌≢◌, ◌<◌, ◌+◌, ◌^◌, ◌++◌, ◌∷◌, ◌∙◌, [], List, ℕ, false, Option, Some, None, All, length, refl, sym, ap, subst, append-nil}
 use Rattle.std.proofs.lemmas.Bool.{true≢false}
+use Rattle.std.proofs.lemmas.List.{length-map}
 use Rattle.std.proofs.lemmas.List.Elements.{All-push}
 use Rattle.q4_value.specs.declared.row.Value.{Value}
 use Rattle.q4_table.specs.declared.adding.Check.{Check}
@@ -14,7 +15,7 @@ use Rattle.q4_machine.specs.declared.entry.Reply.TheVariants as reply
 use Rattle.q4_machine.specs.declared.looks.Listed.{Listed}
 use Rattle.q4_machine.specs.declared.session.SessionMode.{SessionMode}
 use Rattle.q4_machine.specs.declared.session.SessionMode.TheVariants.{NonOwner, Empty, Owner}
-use Rattle.q4_machine.specs.Definitions.{definitions, IsRowFor, IsListed}
+use Rattle.q4_machine.specs.Definitions.{definition_of, definitions, IsRowFor, IsListed}
 use Rattle.q4_machine.specs.Machine.{MachineState, mode_of, table_at}
 use Rattle.q4_machine.specs.Pick.{Picked, pick}
 use Rattle.q4_machine.specs.Step.{step, MayStep, inserted, looked, ended, aborted}
@@ -32,6 +33,11 @@ use Rattle.q4_machine.proofs.Histories.{state_push, legal_push, opener_more, ope
 -- a history that is not empty keeps its first entry
 pub defined_push : (history : List Entry) (e : Entry) → IsLegal history → definitions_of (history ++ e ∷ []) ≡ definitions_of history
 defined_push history e legal = ap (λ h. definitions_of (h ++ e ∷ [])) legal.whole ∙ ap definitions_of (sym legal.whole)
+
+-- a number of all tables is one of all definitions
+pub lists_defined : (m : MachineState) (history : List Entry) (n : ℕ) → IsRecorded m history → n ≡ length m.tables → n ≡ length (definitions_of history)
+lists_defined m history n recorded size =
+    size ∙ sym (length-map m.tables definition_of) ∙ ap (λ (x : MachineState). length (definitions x.tables)) recorded.reached ∙ ap length recorded.sound.defined
 
 -- ## One more entry
 

@@ -17,7 +17,7 @@ use Rattle.q4_table.specs.Valid.{RiseBelow, IsValidTable}
 use Rattle.q4_machine.specs.declared.session.SessionMode.{SessionMode}
 use Rattle.q4_machine.specs.declared.session.SessionMode.TheVariants.{NonOwner, Empty, Owner}
 use Rattle.q4_machine.specs.declared.session.OpenSession.{OpenSession}
-use Rattle.q4_machine.specs.declared.tables.Opening.{Opening}
+use Rattle.q4_machine.specs.Opening.{Opening}
 use Rattle.q4_machine.specs.declared.entry.Call.TheVariants.{Open}
 use Rattle.q4_machine.specs.Machine.{MachineState, no_table, opening_at, table_at, mode_of, owner_at, session_in, in_mode, with_mode, without_session}
 use Rattle.q4_machine.specs.Step.{with_table, with_rows, with_session, with_none, step, ended, aborted, closed}

@@ -5,7 +5,7 @@ use Rattle.q4_value.specs.declared.row.Value.{Value}
 use Rattle.q4_value.specs.Row.{Fits}
 use Rattle.q4_cond.specs.Reading.{kinds_of}
 use Rattle.q4_def.specs.declared.table_def.TableDef.{TableDef}
-use Rattle.q4_machine.specs.declared.tables.Opening.{Opening}
+use Rattle.q4_machine.specs.Opening.{Opening}
 use Rattle.q4_machine.specs.declared.looks.Listed.{Listed}
 
 -- a table's name and columns

@@ -8,7 +8,7 @@ use Rattle.q4_machine.specs.declared.entry.Call.{Call}
 use Rattle.q4_machine.specs.declared.entry.Call.TheVariants.{Opened, Open, Insert, End, Sync}
 use Rattle.q4_machine.specs.declared.entry.Reply.{Reply}
 use Rattle.q4_machine.specs.declared.entry.Reply.TheVariants.{Done, Added}
-use Rattle.q4_machine.specs.declared.tables.Opening.{Opening}
+use Rattle.q4_machine.specs.Opening.{Opening}
 use Rattle.q4_machine.specs.Definitions.{definitions}
 use Rattle.q4_machine.specs.Machine.{MachineState, mode_of, IsSessionOpen}
 use Rattle.q4_machine.specs.Step.{step, MayStep}

@@ -1,5 +1,7 @@
+pub mod Opening
 pub mod Definitions
 pub mod Machine
+pub mod Kept
 pub mod Pick
 pub mod Step
 pub mod Valid

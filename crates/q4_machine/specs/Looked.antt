@@ -3,7 +3,7 @@ use Rattle.std.specs.Prelude.{◌≡◌, ◌+◌, ℕ, List, ◌∷◌, ◌++◌
 use Rattle.q4_table.specs.Oldest.{IsOldest, IsFree}
 use Rattle.q4_machine.specs.declared.looks.Listed.{Listed}
 use Rattle.q4_machine.specs.declared.session.SessionMode.TheVariants.{Empty, Owner}
-use Rattle.q4_machine.specs.declared.tables.Opening.{Opening}
+use Rattle.q4_machine.specs.Opening.{Opening}
 use Rattle.q4_machine.specs.declared.entry.Reply.{Reply}
 use Rattle.q4_machine.specs.declared.entry.Reply.TheVariants.{Found, Nothing}
 use Rattle.q4_machine.specs.Machine.{MachineState, table_at, mode_of, owner_at}

@@ -5,7 +5,7 @@ use Rattle.q4_table.specs.TableState.{TableState}
 use Rattle.q4_table.specs.Rows.{owner_in}
 use Rattle.q4_machine.specs.declared.session.SessionMode.{SessionMode}
 use Rattle.q4_machine.specs.declared.session.OpenSession.{OpenSession}
-use Rattle.q4_machine.specs.declared.tables.Opening.{Opening}
+use Rattle.q4_machine.specs.Opening.{Opening}
 
 -- the tables by place from 0, the open sessions, and the number that the next session gets
 pub record MachineState : Type 0 where

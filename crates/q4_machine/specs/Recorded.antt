@@ -6,11 +6,12 @@ use Rattle.q4_machine.specs.declared.entry.Call.TheVariants.{Opened, Sync}
 use Rattle.q4_machine.specs.declared.entry.Reply.{Reply}
 use Rattle.q4_machine.specs.declared.entry.Reply.TheVariants.{Done}
 use Rattle.q4_def.specs.declared.table_def.TableDef.{TableDef}
+use Rattle.q4_table.specs.Cursors.{Cursor}
 use Rattle.q4_table.specs.TableState.{new_table}
 use Rattle.q4_machine.specs.declared.desk.DeskFault.TheVariants as desk_fault
 use Rattle.q4_machine.specs.declared.desk.InsertFault.{InsertFault}
 use Rattle.q4_machine.specs.declared.desk.InsertFault.TheVariants.{Desk}
-use Rattle.q4_machine.specs.declared.tables.Opening.{Opening}
+use Rattle.q4_machine.specs.Opening.{Opening}
 use Rattle.q4_machine.specs.Definitions.{definitions}
 use Rattle.q4_machine.specs.Machine.{MachineState, mode_of}
 use Rattle.q4_machine.specs.History.{state_after, definitions_of, IsLegal}
@@ -21,10 +22,16 @@ pub record Recorded : Type 0 where
   pub seen : List Entry
   pub room : ℕ
 
--- its history, and the session for which calls are made
+-- what contracts see of a machine that records: its log, and apart from it what its tables keep, by their places
+pub record RecordedView : Type 0 where
+  pub log : Recorded
+  pub kept : List (List Cursor)
+
+-- its history, the session for which calls are made, and what its tables keep, by their places
 pub record DeskState : Type 0 where
   pub seen : List Entry
   pub current : Option ℕ
+  pub kept : List (List Cursor)
 
 -- an entry of caller 0
 abbrev pub entry : ℕ → Call → Reply → Entry

@@ -21,19 +21,28 @@ use Rattle.q4_machine.specs.declared.entry.Reply.TheVariants.{Done, Session, Add
 use Rattle.q4_machine.specs.declared.entry.Refusal.{Refusal}
 use Rattle.q4_machine.specs.declared.entry.Refusal.TheVariants.{NotOwner, NoRow, Spent, Rows, Bytes}
 use Rattle.q4_machine.specs.declared.shown.NumberedRow.{NumberedRow}
+use Rattle.q4_machine.specs.Opening.{Opening}
 use Rattle.q4_machine.specs.Definitions.{definitions, IsRowFor, IsListed}
 use Rattle.q4_machine.specs.Machine.{MachineState, opening_at, table_at, with_mode, without_session, mode_of, IsSessionOpen}
 use Rattle.q4_machine.specs.Pick.{Picked, pick}
 
+-- the tables with one of them changed
+abbrev pub tables_with : List Opening → ℕ → TableState → List Opening
+tables_with tables place table = slice_set tables place (record (opening_at tables place) { table = table })
+
+-- the tables with the rows of one of them changed
+abbrev pub rows_with : List Opening → ℕ → (List StoredRow → List StoredRow) → List Opening
+rows_with tables place change =
+    let table = table_at tables place in
+    tables_with tables place (record table { rows = change table.rows })
+
 -- the machine with a table changed
 abbrev pub with_table : MachineState → ℕ → TableState → MachineState
-with_table m place table = record m { tables = slice_set m.tables place (record (opening_at m.tables place) { table = table }) }
+with_table m place table = record m { tables = tables_with m.tables place table }
 
 -- the machine with the rows of a table changed
 abbrev pub with_rows : MachineState → ℕ → (List StoredRow → List StoredRow) → MachineState
-with_rows m place change =
-    let table = table_at m.tables place in
-    with_table m place (record table { rows = change table.rows })
+with_rows m place change = record m { tables = rows_with m.tables place change }
 
 -- the machine with a session in another mode
 abbrev pub with_session : MachineState → ℕ → SessionMode → MachineState

@@ -2,7 +2,7 @@
 use Rattle.std.specs.Prelude.{◌≡◌, ◌<◌, ℕ, List, Some, All, map}
 use Rattle.q4_table.specs.Valid.{RiseBelow, IsValidTable}
 use Rattle.q4_machine.specs.declared.session.SessionMode.TheVariants.{Owner}
-use Rattle.q4_machine.specs.declared.tables.Opening.{Opening}
+use Rattle.q4_machine.specs.Opening.{Opening}
 use Rattle.q4_machine.specs.Machine.{MachineState, mode_of, owner_at}
 
 abbrev pub AreValidTables : List Opening → Type 0

@@ -3,6 +3,7 @@
 
 mod desk;
 mod entry;
+mod kept_tables;
 mod laws;
 mod looks;
 mod machine;

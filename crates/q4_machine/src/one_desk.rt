@@ -1,9 +1,10 @@
-ghost use Rattle.std.specs.Prelude.{◌≡◌, ◌⊎◌, ℕ, List, Option, Some, None, All, IfOk, IfErr};
+ghost use Rattle.std.specs.Prelude.{◌≡◌, ◌≤◌, ◌⊎◌, ℕ, List, Option, Some, None, All, IsSome, length, IfOk, IfErr};
 ghost use Rattle.q4_machine.specs.declared.entry.Call.TheVariants as call;
-ghost use Rattle.q4_machine.specs.Definitions.{IsListed};
+ghost use Rattle.q4_machine.specs.Definitions.{definitions, IsListed};
 ghost use Rattle.q4_machine.specs.Machine.{mode_of};
 ghost use Rattle.q4_machine.specs.Step.{look_reply, abort_reply, row_reply};
-ghost use Rattle.q4_machine.specs.Parts.{Replied, mode_answer, row_answer};
+ghost use Rattle.q4_machine.specs.Kept.{AreKept, KeepSame};
+ghost use Rattle.q4_machine.specs.Parts.{Replied, IsInOrder, Grows, IsPart, wait_answer, mode_answer, row_answer, Waits};
 ghost use Rattle.q4_machine.specs.History.{state_after, definitions_of, is_owner, IsOpenFor, IsSettled, SyncsAreOwed};
 ghost use Rattle.q4_machine.specs.Patience.{Looked};
 ghost use Rattle.q4_machine.specs.Recorded.{HasRoom, IsSound, entry_limit, ended_first, LookedUntil};
@@ -11,7 +12,7 @@ ghost use Rattle.q4_machine.specs.OneDesk.{IsNew, BeginsNew};
 
 use crate::recorded::RecordedMachine;
 use crate::{
-    Desk, DeskFault, Entry, InsertFault, Looks, ModeFault, Patience, Refusal, Rows, Seats,
+    Desk, DeskFault, Entry, InsertFault, Looks, Machine, ModeFault, Patience, Refusal, Rows, Seats,
     SessionMode,
 };
 use q4_def::Defs;
@@ -32,17 +33,18 @@ pub struct OneDesk {
 impl Model for OneDesk {
     ghost use Rattle.q4_machine.specs.Recorded.{DeskState};
     ghost use Rattle.q4_machine.specs.contracts.entry.Entry as entry;
+    ghost use Rattle.q4_table.specs.contracts.cursors.Cursors as cursors;
     ghost use Rattle.std.specs.Coded.{codes};
 
     ghost Value = { DeskState };
 
-    ghost coded = { Prim.hlevel (codes, entry.the_row.coded) };
+    ghost coded = { Prim.hlevel (codes, entry.the_row.coded, cursors.the_row.coded) };
 
     ghost use Rattle.q4_machine.specs.OneDesk.{IsOneDesk};
 
-    ghost view = { λ d. record { seen = d.recorded.seen; current = d.current } };
+    ghost view = { λ d. record { seen = d.recorded.log.seen; current = d.current; kept = d.recorded.kept } };
 
-    ghost invariant = { λ d. IsOneDesk d.recorded d.defs d.current };
+    ghost invariant = { λ d. IsOneDesk d.recorded.log d.defs d.current };
 }
 
 impl OneDesk {
@@ -57,6 +59,15 @@ impl OneDesk {
             defs,
             current: None,
         })
+    }
+
+    /// The machine, whose state is the one that the history reaches.
+    pub fn machine(&self) -> &Machine
+        ensures state { result.now.state ≡ state_after self.now.seen }
+        ensures defined { definitions result.now.state.tables ≡ definitions_of self.now.seen }
+        ensures kept { result.now.kept ≡ self.now.kept }
+    {
+        self.recorded.machine()
     }
 
     /// The whole history, oldest entry first.
@@ -121,7 +132,17 @@ impl Desk for OneDesk {
         list: &Looks,
         seconds: u32,
         patience: &mut P,
-    ) -> Result<Option<u32>, DeskFault> {
+    ) -> Result<Option<u32>, DeskFault>
+        requires is_open { IsSome self.old.current }
+        requires listed { All (IsListed (definitions_of self.old.seen)) list.now }
+        ensures in_order { IsInOrder self.new.seen 0 self.new.current }
+        ensures defined { definitions_of self.new.seen ≡ definitions_of self.old.seen }
+        ensures current { self.new.current ≡ self.old.current }
+        ensures part { (s : ℕ) → self.old.current ≡ Some s → Grows self.old.seen self.new.seen (λ grown.
+            IsPart entry_limit self.old.seen grown 0 s (call.Look list.now) (wait_answer result)) }
+        ensures patience { Waits (P.state patience.old) (P.state patience.new) seconds (wait_answer result) }
+        ensures kept { IfOk result (λ _. length list.now ≤ 64 → AreKept self.new.kept list.now) }
+    {
         let Some(session) = self.current else {
             unreachable!()
         };
@@ -131,6 +152,9 @@ impl Desk for OneDesk {
         let Ok(copy) = list.copy(self.alloc) else {
             return Err(DeskFault::Memory);
         };
+        if let Err(fault) = self.recorded.keep(list) {
+            return Err(fault);
+        }
         patience.start(seconds);
         let owes = end_first(&mut self.recorded, session);
         Ok(look_until(&mut self.recorded, session, copy, owes, patience))
@@ -230,14 +254,15 @@ fn row_result(answer: Result<u64, Refusal>) -> Result<u64, ModeFault>
 
 // Ends where the session is in owner mode, and tells whether that is owed a sync.
 fn end_first(recorded: &mut RecordedMachine, session: u64) -> bool
-    requires room { HasRoom recorded.old 1 }
-    requires is_open { IsOpenFor recorded.old.seen 0 session }
-    ensures ended { recorded.new ≡ ended_first recorded.old session }
-    ensures owes { result ≡ is_owner (mode_of (state_after recorded.old.seen) session) }
-    ensures is_open { IsOpenFor recorded.new.seen 0 session }
-    ensures mode { mode_of (state_after recorded.new.seen) session ≡ Some SessionMode.NonOwner }
-    ensures sound { IsSound recorded.new.seen }
-    ensures defined { definitions_of recorded.new.seen ≡ definitions_of recorded.old.seen }
+    requires room { HasRoom recorded.old.log 1 }
+    requires is_open { IsOpenFor recorded.old.log.seen 0 session }
+    ensures cursors { recorded.new.kept ≡ recorded.old.kept }
+    ensures ended { recorded.new.log ≡ ended_first recorded.old.log session }
+    ensures owes { result ≡ is_owner (mode_of (state_after recorded.old.log.seen) session) }
+    ensures is_open { IsOpenFor recorded.new.log.seen 0 session }
+    ensures mode { mode_of (state_after recorded.new.log.seen) session ≡ Some SessionMode.NonOwner }
+    ensures sound { IsSound recorded.new.log.seen }
+    ensures defined { definitions_of recorded.new.log.seen ≡ definitions_of recorded.old.log.seen }
 {
     match recorded.mode(session) {
         SessionMode::NonOwner => false,
@@ -261,14 +286,15 @@ fn look_until<P: Patience>(
     owes: bool,
     patience: &mut P,
 ) -> Option<u32>
-    requires room { HasRoom recorded.old 3 }
-    requires is_open { IsOpenFor recorded.old.seen 0 session }
-    requires mode { mode_of (state_after recorded.old.seen) session ≡ Some SessionMode.NonOwner }
-    requires listed { All (IsListed (definitions_of recorded.old.seen)) list }
-    ensures looked { LookedUntil recorded.old recorded.new session (call.Look list) (look_reply result) owes }
-    ensures is_open { IsOpenFor recorded.new.seen 0 session }
-    ensures sound { IsSound recorded.new.seen }
-    ensures defined { definitions_of recorded.new.seen ≡ definitions_of recorded.old.seen }
+    requires room { HasRoom recorded.old.log 3 }
+    requires is_open { IsOpenFor recorded.old.log.seen 0 session }
+    requires mode { mode_of (state_after recorded.old.log.seen) session ≡ Some SessionMode.NonOwner }
+    requires listed { All (IsListed (definitions_of recorded.old.log.seen)) list }
+    ensures kept { KeepSame recorded.old.kept recorded.new.kept }
+    ensures looked { LookedUntil recorded.old.log recorded.new.log session (call.Look list) (look_reply result) owes }
+    ensures is_open { IsOpenFor recorded.new.log.seen 0 session }
+    ensures sound { IsSound recorded.new.log.seen }
+    ensures defined { definitions_of recorded.new.log.seen ≡ definitions_of recorded.old.log.seen }
     ensures patience { Looked (P.state patience.old) (P.state patience.new) result }
 {
     let mut list = list;

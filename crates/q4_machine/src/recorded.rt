@@ -2,8 +2,9 @@ ghost use Rattle.std.specs.Prelude.{◌≡◌, ◌≤◌, ◌<◌, ◌⊎◌, �
 ghost use Rattle.q4_def.specs.Tables.{AreDefs};
 ghost use Rattle.q4_machine.specs.declared.entry.Call.TheVariants as call;
 ghost use Rattle.q4_machine.specs.declared.entry.Reply.TheVariants as reply;
-ghost use Rattle.q4_machine.specs.Definitions.{IsRowFor, IsListed};
+ghost use Rattle.q4_machine.specs.Definitions.{definitions, IsRowFor, IsListed};
 ghost use Rattle.q4_machine.specs.Machine.{mode_of, IsSessionOpen};
+ghost use Rattle.q4_machine.specs.Kept.{keep_all, kept_after};
 ghost use Rattle.q4_machine.specs.Step.{look_reply, end_reply, abort_reply, row_reply, insert_reply};
 ghost use Rattle.q4_machine.specs.Parts.{IsWorn, insert_answer, select_answer, replied};
 ghost use Rattle.q4_machine.specs.History.{state_after, definitions_of, is_owner, IsOpenFor};
@@ -31,27 +32,28 @@ pub struct RecordedMachine {
 
 impl Model for RecordedMachine {
     ghost use Rattle.std.specs.Prelude.{vec_capacity};
-    ghost use Rattle.q4_machine.specs.Recorded.{Recorded};
+    ghost use Rattle.q4_machine.specs.Recorded.{RecordedView};
     ghost use Rattle.q4_machine.specs.contracts.entry.Entry as entry;
+    ghost use Rattle.q4_table.specs.contracts.cursors.Cursors as cursors;
     ghost use Rattle.std.specs.Coded.{codes};
 
-    ghost Value = { Recorded };
+    ghost Value = { RecordedView };
 
-    ghost coded = { Prim.hlevel (codes, entry.the_row.coded) };
+    ghost coded = { Prim.hlevel (codes, entry.the_row.coded, cursors.the_row.coded) };
 
     ghost use Rattle.q4_machine.specs.Recorded.{IsRecorded};
 
-    ghost view = { λ r. record { seen = r.history.items; room = vec_capacity r.history } };
+    ghost view = { λ r. record { log = record { seen = r.history.items; room = vec_capacity r.history }; kept = r.machine.kept } };
 
-    ghost invariant = { λ r. IsRecorded r.machine r.history.items };
+    ghost invariant = { λ r. IsRecorded r.machine.state r.history.items };
 }
 
 impl RecordedMachine {
     /// A machine over empty tables of these definitions.
     pub fn new(alloc: Global, defs: &Defs) -> Result<RecordedMachine, NoMemory>
-        ensures seen { IfOk result (λ recorded. recorded.seen ≡ opened_new defs.now ∷ []) }
-        ensures sound { IfOk result (λ recorded. IsSound recorded.seen) }
-        ensures defined { IfOk result (λ recorded. definitions_of recorded.seen ≡ defs.now) }
+        ensures seen { IfOk result (λ recorded. recorded.log.seen ≡ opened_new defs.now ∷ []) }
+        ensures sound { IfOk result (λ recorded. IsSound recorded.log.seen) }
+        ensures defined { IfOk result (λ recorded. definitions_of recorded.log.seen ≡ defs.now) }
     {
         let _count = defs.len();
         let machine = match Machine::new(alloc, Tables::of_definitions(alloc, defs)?) {
@@ -72,17 +74,18 @@ impl RecordedMachine {
     }
 
     pub fn history(&self) -> &[Entry]
-        ensures { result.now ≡ self.now.seen }
+        ensures { result.now ≡ self.now.log.seen }
     {
         self.history.as_slice()
     }
 
     /// Makes room for the entries of a call, and for the closing of each open session. It is worn where the limit has none.
     pub fn begin(&mut self) -> Result<(), DeskFault>
-        ensures seen { self.new.seen ≡ self.old.seen }
-        ensures kept { self.old.room ≤ self.new.room }
-        ensures begun { OnOk result (HasBegun self.old.seen self.new) }
-        ensures worn { IfErr result (λ fault. fault ≡ DeskFault.Memory ⊎ ((fault ≡ DeskFault.Worn (length self.old.seen)) × IsWorn entry_limit self.old.seen)) }
+        ensures seen { self.new.log.seen ≡ self.old.log.seen }
+        ensures kept { self.old.log.room ≤ self.new.log.room }
+        ensures cursors { self.new.kept ≡ self.old.kept }
+        ensures begun { OnOk result (HasBegun self.old.log.seen self.new.log) }
+        ensures worn { IfErr result (λ fault. fault ≡ DeskFault.Memory ⊎ ((fault ≡ DeskFault.Worn (length self.old.log.seen)) × IsWorn entry_limit self.old.log.seen)) }
     {
         let entries = self.history.len();
         let sessions = self.machine.sessions() as usize;
@@ -97,19 +100,19 @@ impl RecordedMachine {
 
     /// The mode of an open session.
     pub fn mode(&self, session: u64) -> SessionMode
-        requires { IsOpenFor self.now.seen 0 session }
-        ensures mode { mode_of (state_after self.now.seen) session ≡ Some result }
-        ensures sound { IsSound self.now.seen }
+        requires { IsOpenFor self.now.log.seen 0 session }
+        ensures mode { mode_of (state_after self.now.log.seen) session ≡ Some result }
+        ensures sound { IsSound self.now.log.seen }
     {
         self.machine.mode(session)
     }
 
     pub fn open(&mut self) -> Result<u64, DeskFault>
-        requires { HasRoom self.old 1 }
-        ensures opened { IfOk result (λ s. self.new ≡ pushed self.old s call.Open (reply.Session s)) }
-        ensures is_open { IfOk result (λ s. IsOpenFor self.new.seen 0 s) }
-        ensures sound { IsSound self.new.seen }
-        ensures defined { definitions_of self.new.seen ≡ definitions_of self.old.seen }
+        requires { HasRoom self.old.log 1 }
+        ensures opened { IfOk result (λ s. self.new.log ≡ pushed self.old.log s call.Open (reply.Session s)) }
+        ensures is_open { IfOk result (λ s. IsOpenFor self.new.log.seen 0 s) }
+        ensures sound { IsSound self.new.log.seen }
+        ensures defined { definitions_of self.new.log.seen ≡ definitions_of self.old.log.seen }
         ensures kept { OnErr result (self.new ≡ self.old) }
         ensures memory { IfErr result (λ fault. fault ≡ DeskFault.Memory) }
     {
@@ -131,14 +134,14 @@ impl RecordedMachine {
         row: Row,
         copy: Row,
     ) -> Result<Added, InsertFault>
-        requires room { HasRoom self.old 1 }
-        requires is_open { IsOpenFor self.old.seen 0 session }
-        requires row { IsRowFor (definitions_of self.old.seen) table row }
+        requires room { HasRoom self.old.log 1 }
+        requires is_open { IsOpenFor self.old.log.seen 0 session }
+        requires row { IsRowFor (definitions_of self.old.log.seen) table row }
         requires copy { copy ≡ row }
-        ensures entry { self.new ≡ answered self.old session (call.Insert table row) (insert_answer result) }
-        ensures is_open { IsOpenFor self.new.seen 0 session }
-        ensures sound { IsSound self.new.seen }
-        ensures defined { definitions_of self.new.seen ≡ definitions_of self.old.seen }
+        ensures entry { self.new.log ≡ answered self.old.log session (call.Insert table row) (insert_answer result) }
+        ensures is_open { IsOpenFor self.new.log.seen 0 session }
+        ensures sound { IsSound self.new.log.seen }
+        ensures defined { definitions_of self.new.log.seen ≡ definitions_of self.old.log.seen }
         ensures entered { IfErr result IsInsertRefusal }
     {
         let answer = desk_answer(self.machine.insert(session, table, row));
@@ -152,19 +155,43 @@ impl RecordedMachine {
         }
     }
 
+    /// The machine itself, whose state is the one that the history reaches.
+    pub fn machine(&self) -> &Machine
+        ensures state { result.now.state ≡ state_after self.now.log.seen }
+        ensures defined { definitions result.now.state.tables ≡ definitions_of self.now.log.seen }
+        ensures kept { result.now.kept ≡ self.now.kept }
+    {
+        &self.machine
+    }
+
+    /// Keeps each listed condition in its table, which is no entry. A refusal leaves some of them kept.
+    pub fn keep(&mut self, list: &Looks) -> Result<(), DeskFault>
+        requires { All (IsListed (definitions_of self.old.log.seen)) list.now }
+        ensures log { self.new.log ≡ self.old.log }
+        ensures kept { OnOk result (self.new.kept ≡ keep_all list.now self.old.kept) }
+        ensures lists { length self.old.kept ≡ length (definitions_of self.old.log.seen) }
+        ensures memory { IfErr result (λ fault. fault ≡ DeskFault.Memory) }
+    {
+        match self.machine.keep(list) {
+            Ok(()) => Ok(()),
+            Err(NoMemory) => Err(DeskFault::Memory),
+        }
+    }
+
     /// A look of a session in non-owner mode. Where it finds none and the time is not over it is no entry, and gives the
     /// list back.
     pub fn look(&mut self, session: u64, list: Looks, over: bool) -> Result<Option<u32>, Looks>
-        requires room { HasRoom self.old 1 }
-        requires is_open { IsOpenFor self.old.seen 0 session }
-        requires mode { mode_of (state_after self.old.seen) session ≡ Some SessionMode.NonOwner }
-        requires listed { All (IsListed (definitions_of self.old.seen)) list }
-        ensures looked { IfOk result (λ place. self.new ≡ pushed self.old session (call.Look list) (look_reply place)) }
+        requires room { HasRoom self.old.log 1 }
+        requires is_open { IsOpenFor self.old.log.seen 0 session }
+        requires mode { mode_of (state_after self.old.log.seen) session ≡ Some SessionMode.NonOwner }
+        requires listed { All (IsListed (definitions_of self.old.log.seen)) list }
+        ensures cursors { self.new.kept ≡ kept_after (state_after self.old.log.seen).tables list self.old.kept }
+        ensures looked { IfOk result (λ place. self.new.log ≡ pushed self.old.log session (call.Look list) (look_reply place)) }
         ensures over { result ≡ Ok None → over ≡ true }
-        ensures waits { IfErr result (λ back. (self.new ≡ self.old) × (back ≡ list) × (over ≡ false)) }
-        ensures is_open { IsOpenFor self.new.seen 0 session }
-        ensures sound { IsSound self.new.seen }
-        ensures defined { definitions_of self.new.seen ≡ definitions_of self.old.seen }
+        ensures waits { IfErr result (λ back. (self.new.log ≡ self.old.log) × (back ≡ list) × (over ≡ false)) }
+        ensures is_open { IsOpenFor self.new.log.seen 0 session }
+        ensures sound { IsSound self.new.log.seen }
+        ensures defined { definitions_of self.new.log.seen ≡ definitions_of self.old.log.seen }
     {
         let place = self.machine.look(session, &list, over, &mut cond_steps());
         if ends_wait(place, over) {
@@ -178,16 +205,17 @@ impl RecordedMachine {
 
     /// It tells the row that was removed. The session is in non-owner mode then.
     pub fn end(&mut self, session: u64) -> Result<Option<(u32, u64)>, Refusal>
-        requires room { HasRoom self.old 1 }
-        requires is_open { IsOpenFor self.old.seen 0 session }
-        ensures ended { self.new ≡ pushed self.old session call.End (end_reply result) }
-        ensures removed { IfOk result (λ row. is_some row ≡ is_owner (mode_of (state_after self.old.seen) session)) }
-        ensures refused { OnErr result (mode_of (state_after self.old.seen) session ≡ Some SessionMode.NonOwner) }
+        requires room { HasRoom self.old.log 1 }
+        requires is_open { IsOpenFor self.old.log.seen 0 session }
+        ensures cursors { self.new.kept ≡ self.old.kept }
+        ensures ended { self.new.log ≡ pushed self.old.log session call.End (end_reply result) }
+        ensures removed { IfOk result (λ row. is_some row ≡ is_owner (mode_of (state_after self.old.log.seen) session)) }
+        ensures refused { OnErr result (mode_of (state_after self.old.log.seen) session ≡ Some SessionMode.NonOwner) }
         ensures refusal { IfErr result (λ refusal. refusal ≡ Refusal.NotOwner) }
-        ensures is_open { IsOpenFor self.new.seen 0 session }
-        ensures mode { mode_of (state_after self.new.seen) session ≡ Some SessionMode.NonOwner }
-        ensures sound { IsSound self.new.seen }
-        ensures defined { definitions_of self.new.seen ≡ definitions_of self.old.seen }
+        ensures is_open { IsOpenFor self.new.log.seen 0 session }
+        ensures mode { mode_of (state_after self.new.log.seen) session ≡ Some SessionMode.NonOwner }
+        ensures sound { IsSound self.new.log.seen }
+        ensures defined { definitions_of self.new.log.seen ≡ definitions_of self.old.log.seen }
     {
         let ended = self.machine.end(session);
         self.history
@@ -197,13 +225,13 @@ impl RecordedMachine {
 
     /// It gives the owned row back.
     pub fn abort(&mut self, session: u64) -> Result<(), Refusal>
-        requires room { HasRoom self.old 1 }
-        requires is_open { IsOpenFor self.old.seen 0 session }
-        ensures aborted { self.new ≡ pushed self.old session call.Abort (abort_reply result) }
+        requires room { HasRoom self.old.log 1 }
+        requires is_open { IsOpenFor self.old.log.seen 0 session }
+        ensures aborted { self.new.log ≡ pushed self.old.log session call.Abort (abort_reply result) }
         ensures refusal { IfErr result (λ refusal. refusal ≡ Refusal.NotOwner) }
-        ensures is_open { IsOpenFor self.new.seen 0 session }
-        ensures sound { IsSound self.new.seen }
-        ensures defined { definitions_of self.new.seen ≡ definitions_of self.old.seen }
+        ensures is_open { IsOpenFor self.new.log.seen 0 session }
+        ensures sound { IsSound self.new.log.seen }
+        ensures defined { definitions_of self.new.log.seen ≡ definitions_of self.old.log.seen }
     {
         let aborted = self.machine.abort(session);
         self.history
@@ -213,13 +241,13 @@ impl RecordedMachine {
 
     /// The number of the owned row.
     pub fn row_id(&mut self, session: u64) -> Result<u64, Refusal>
-        requires room { HasRoom self.old 1 }
-        requires is_open { IsOpenFor self.old.seen 0 session }
-        ensures told { self.new ≡ pushed self.old session call.RowId (row_reply result) }
+        requires room { HasRoom self.old.log 1 }
+        requires is_open { IsOpenFor self.old.log.seen 0 session }
+        ensures told { self.new.log ≡ pushed self.old.log session call.RowId (row_reply result) }
         ensures refusal { IfErr result (λ refusal. (refusal ≡ Refusal.NotOwner) ⊎ (refusal ≡ Refusal.NoRow)) }
-        ensures is_open { IsOpenFor self.new.seen 0 session }
-        ensures sound { IsSound self.new.seen }
-        ensures defined { definitions_of self.new.seen ≡ definitions_of self.old.seen }
+        ensures is_open { IsOpenFor self.new.log.seen 0 session }
+        ensures sound { IsSound self.new.log.seen }
+        ensures defined { definitions_of self.new.log.seen ≡ definitions_of self.old.log.seen }
     {
         let told = self.machine.row_id(session);
         self.history
@@ -235,14 +263,14 @@ impl RecordedMachine {
         table: u32,
         most: u32,
     ) -> Result<Rows, DeskFault>
-        requires room { HasRoom self.old 1 }
-        requires is_open { IsOpenFor self.old.seen 0 session }
-        requires inside { table < length (definitions_of self.old.seen) }
-        ensures shown { self.new ≡ answered self.old session (call.Select table most) (select_answer result) }
+        requires room { HasRoom self.old.log 1 }
+        requires is_open { IsOpenFor self.old.log.seen 0 session }
+        requires inside { table < length (definitions_of self.old.log.seen) }
+        ensures shown { self.new.log ≡ answered self.old.log session (call.Select table most) (select_answer result) }
         ensures memory { IfErr result (λ fault. fault ≡ DeskFault.Memory) }
-        ensures is_open { IsOpenFor self.new.seen 0 session }
-        ensures sound { IsSound self.new.seen }
-        ensures defined { definitions_of self.new.seen ≡ definitions_of self.old.seen }
+        ensures is_open { IsOpenFor self.new.log.seen 0 session }
+        ensures sound { IsSound self.new.log.seen }
+        ensures defined { definitions_of self.new.log.seen ≡ definitions_of self.old.log.seen }
     {
         let Ok(rows) = self.machine.select(alloc, session, table, most) else {
             return Err(DeskFault::Memory);
@@ -255,11 +283,11 @@ impl RecordedMachine {
     }
 
     pub fn close(&mut self, session: u64)
-        requires room { HasRoom self.old 1 }
-        requires is_open { IsOpenFor self.old.seen 0 session }
-        ensures closed { self.new ≡ pushed self.old session call.Close reply.Done }
-        ensures sound { IsSound self.new.seen }
-        ensures defined { definitions_of self.new.seen ≡ definitions_of self.old.seen }
+        requires room { HasRoom self.old.log 1 }
+        requires is_open { IsOpenFor self.old.log.seen 0 session }
+        ensures closed { self.new.log ≡ pushed self.old.log session call.Close reply.Done }
+        ensures sound { IsSound self.new.log.seen }
+        ensures defined { definitions_of self.new.log.seen ≡ definitions_of self.old.log.seen }
     {
         self.machine.close(session);
         self.history
@@ -268,19 +296,20 @@ impl RecordedMachine {
 
     /// Whether a session is open.
     pub fn is_open(&self, session: u64) -> bool
-        ensures { IsTrue result ↔ IsSessionOpen (state_after self.now.seen) session }
+        ensures { IsTrue result ↔ IsSessionOpen (state_after self.now.log.seen) session }
     {
         self.machine.is_open(session)
     }
 
     /// In memory every change is safe at once.
     pub fn sync(&mut self, session: u64)
-        requires room { HasRoom self.old 1 }
-        requires is_open { IsOpenFor self.old.seen 0 session }
-        ensures synced { self.new ≡ pushed self.old session call.Sync reply.Done }
-        ensures is_open { IsOpenFor self.new.seen 0 session }
-        ensures sound { IsSound self.new.seen }
-        ensures defined { definitions_of self.new.seen ≡ definitions_of self.old.seen }
+        requires room { HasRoom self.old.log 1 }
+        requires is_open { IsOpenFor self.old.log.seen 0 session }
+        ensures cursors { self.new.kept ≡ self.old.kept }
+        ensures synced { self.new.log ≡ pushed self.old.log session call.Sync reply.Done }
+        ensures is_open { IsOpenFor self.new.log.seen 0 session }
+        ensures sound { IsSound self.new.log.seen }
+        ensures defined { definitions_of self.new.log.seen ≡ definitions_of self.old.log.seen }
     {
         self.history
             .push_reserved(entry(session, Call::Sync, Reply::Done));

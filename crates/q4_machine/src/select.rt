@@ -11,8 +11,8 @@ use std::alloc::Global;
 
 // The first rows of the table, at most so many, that nobody owns.
 pub(crate) fn unowned_rows(alloc: Global, table: &Table, most: u32) -> Result<Rows, NoMemory>
-    requires { IsValidTable table.now }
-    ensures { IfOk result (λ rows. rows ≡ map numbered (take most (filter (λ r. is_none r.owner) table.now.rows))) }
+    requires { IsValidTable table.now.state }
+    ensures { IfOk result (λ rows. rows ≡ map numbered (take most (filter (λ r. is_none r.owner) table.now.state.rows))) }
 {
     let mut rows = Rows::new(alloc);
     let mut cursor = 1;
@@ -33,9 +33,9 @@ pub(crate) fn shown_row(
     number: u64,
     most: u32,
 ) -> Result<Rows, NoMemory>
-    requires valid { IsValidTable table.now }
-    requires there { IsThere table.now.rows number }
-    ensures { IfOk result (λ rows. rows ≡ map numbered (take most (filter (λ r. r.number == number) table.now.rows))) }
+    requires valid { IsValidTable table.now.state }
+    requires there { IsThere table.now.state.rows number }
+    ensures { IfOk result (λ rows. rows ≡ map numbered (take most (filter (λ r. r.number == number) table.now.state.rows))) }
 {
     let mut rows = Rows::new(alloc);
     if most == 0 {
@@ -47,9 +47,9 @@ pub(crate) fn shown_row(
 
 // Puts the row with this number at the end where nobody owns it.
 fn push_unowned(alloc: Global, table: &Table, number: u64, rows: &mut Rows) -> Result<(), NoMemory>
-    requires { IsThere table.now.rows number }
-    ensures free { IfOk result (λ _. is_none (owner_in table.now.rows number) ≡ true → (row : List Value) × (values_in table.now.rows number ≡ Some row) × (rows.new ≡ rows.old ++ record { number = number; row = row } ∷ [])) }
-    ensures owned { IfOk result (λ _. is_none (owner_in table.now.rows number) ≡ false → rows.new ≡ rows.old) }
+    requires { IsThere table.now.state.rows number }
+    ensures free { IfOk result (λ _. is_none (owner_in table.now.state.rows number) ≡ true → (row : List Value) × (values_in table.now.state.rows number ≡ Some row) × (rows.new ≡ rows.old ++ record { number = number; row = row } ∷ [])) }
+    ensures owned { IfOk result (λ _. is_none (owner_in table.now.state.rows number) ≡ false → rows.new ≡ rows.old) }
 {
     if table.owner(number).is_none() {
         push_row(alloc, table, number, rows)?;
@@ -59,8 +59,8 @@ fn push_unowned(alloc: Global, table: &Table, number: u64, rows: &mut Rows) -> R
 
 // Puts the row with this number at the end.
 fn push_row(alloc: Global, table: &Table, number: u64, rows: &mut Rows) -> Result<(), NoMemory>
-    requires { IsThere table.now.rows number }
-    ensures { IfOk result (λ _. (row : List Value) × (values_in table.now.rows number ≡ Some row) × (rows.new ≡ rows.old ++ record { number = number; row = row } ∷ [])) }
+    requires { IsThere table.now.state.rows number }
+    ensures { IfOk result (λ _. (row : List Value) × (values_in table.now.state.rows number ≡ Some row) × (rows.new ≡ rows.old ++ record { number = number; row = row } ∷ [])) }
 {
     let Some(row) = table.row(number) else {
         unreachable!()

@@ -588,8 +588,9 @@ fn a_full_table_refuses(rt: HostRuntime) {
 
 // The built-in table without a row. Its next row gets this number.
 fn opening(rt: &impl Abort, alloc: Global, next: u64) -> Opening
-    ensures valid { IsValidTable result.table }
-    ensures empty { result.table.rows ≡ [] }
+    ensures valid { IsValidTable result.table.state }
+    ensures empty { result.table.state.rows ≡ [] }
+    ensures kept { result.table.kept ≡ [] }
 {
     assert!(rt; next >= 1 && next <= 1 << 62);
     let defs = defs_of(rt, alloc, b"");
@@ -608,7 +609,7 @@ fn opening(rt: &impl Abort, alloc: Global, next: u64) -> Opening
 
 // A machine of that table alone.
 fn numbered_from(rt: &impl Abort, alloc: Global, next: u64) -> Machine
-    ensures { length result.tables ≡ 1 }
+    ensures { length result.state.tables ≡ 1 }
 {
     let mut tables = Tables::new(alloc);
     assert!(rt; tables.push(opening(rt, alloc, next)).is_ok());
@@ -619,16 +620,16 @@ fn numbered_from(rt: &impl Abort, alloc: Global, next: u64) -> Machine
 }
 
 fn open(rt: &impl Abort, machine: &mut Machine) -> u64
-    ensures mode { mode_of machine.new result ≡ Some SessionMode.NonOwner }
-    ensures tables { machine.new.tables ≡ machine.old.tables }
+    ensures mode { mode_of machine.new.state result ≡ Some SessionMode.NonOwner }
+    ensures tables { machine.new.state.tables ≡ machine.old.state.tables }
 {
     machine.open().expect(rt, "memory")
 }
 
 // The row, which has to be one for the table at this place.
 fn row_in(rt: &impl Abort, machine: &Machine, place: u32, row: Row) -> Row
-    requires { place < length machine.now.tables }
-    ensures { IsRowFor (definitions machine.now.tables) place result }
+    requires { place < length machine.now.state.tables }
+    ensures { IsRowFor (definitions machine.now.state.tables) place result }
 {
     let table = machine.table(place);
     tables_are_valid(table);
@@ -665,8 +666,8 @@ fn numbers_of_rows_are_used_up(rt: HostRuntime) {
 
 // Adds a row in a session of its own, which stays open.
 fn add(rt: &impl Abort, alloc: Global, defs: &Defs, machine: &mut RecordedMachine) -> Added
-    requires { definitions_of machine.old.seen ≡ defs.now }
-    ensures { definitions_of machine.new.seen ≡ defs.now }
+    requires { definitions_of machine.old.log.seen ≡ defs.now }
+    ensures { definitions_of machine.new.log.seen ≡ defs.now }
 {
     assert!(rt; machine.begin().is_ok());
     let session = machine.open().expect(rt, "memory");
@@ -684,9 +685,9 @@ fn look(
     defs: &Defs,
     machine: &mut RecordedMachine,
 ) -> (u64, SessionMode)
-    requires { definitions_of machine.old.seen ≡ defs.now }
-    ensures is_open { IsOpenFor machine.new.seen 0 result.0 }
-    ensures defined { definitions_of machine.new.seen ≡ defs.now }
+    requires { definitions_of machine.old.log.seen ≡ defs.now }
+    ensures is_open { IsOpenFor machine.new.log.seen 0 result.0 }
+    ensures defined { definitions_of machine.new.log.seen ≡ defs.now }
 {
     assert!(rt; machine.begin().is_ok());
     let session = machine.open().expect(rt, "memory");
@@ -706,8 +707,8 @@ fn look_and_close(
     defs: &Defs,
     machine: &mut RecordedMachine,
 ) -> SessionMode
-    requires { definitions_of machine.old.seen ≡ defs.now }
-    ensures { definitions_of machine.new.seen ≡ defs.now }
+    requires { definitions_of machine.old.log.seen ≡ defs.now }
+    ensures { definitions_of machine.new.log.seen ≡ defs.now }
 {
     let (session, mode) = look(rt, alloc, defs, machine);
     assert!(rt; machine.begin().is_ok());
@@ -747,4 +748,111 @@ fn owned_at_close(rt: HostRuntime) {
         look_and_close(&rt, alloc, &defs, &mut machine),
         SessionMode::Empty
     );
+}
+
+// Whether the desk's table at this place keeps the condition.
+fn keeps(rt: &impl Abort, alloc: Global, desk: &OneDesk, place: u32, text: &str) -> bool {
+    assert!(rt; place < desk.defs().len());
+    let table = desk.machine().table(place);
+    tables_are_valid(table);
+    match read(alloc, text, table.columns()) {
+        Ok(cond) => table.kept(&cond),
+        Err(_) => panic!(rt; "no condition"),
+    }
+}
+
+// The next session, which is then the current one.
+fn seat(rt: &impl Abort, desk: &mut OneDesk) -> u64
+    ensures { desk.new.current ≡ Some result }
+{
+    desk.stand_up();
+    desk.open(&()).expect(rt, "a session")
+}
+
+// Another session takes its seat.
+fn sit(rt: &impl Abort, desk: &mut OneDesk, session: u64)
+    ensures { IsSome desk.new.current }
+{
+    desk.stand_up();
+    assert!(rt; desk.choose(session));
+}
+
+// Looks for a row of at least 5, and has to be answered so.
+fn look_high(rt: &impl Abort, alloc: Global, desk: &mut OneDesk, wanted: Told)
+    requires { IsSome desk.old.current }
+    ensures { IsSome desk.new.current }
+{
+    assert!(rt; is_told(&wait(rt, alloc, desk, &[(0, "prio>=5")]), wanted));
+}
+
+// A thousand rows of 0 are added.
+fn add_low(rt: &impl Abort, alloc: Global, desk: &mut OneDesk)
+    requires { IsSome desk.old.current }
+    ensures { IsSome desk.new.current }
+{
+    for number in 1..1_001 {
+        let added = insert(rt, desk, 0, row_of(rt, alloc, &[Number(0), Text("")]));
+        assert!(rt; is_told(&added, Told::Added(number)));
+    }
+}
+
+// A look for a condition that a wait kept passes no row that is free for it, and finds one that is given back.
+#[test]
+fn looks_begin_at_cursors(rt: HostRuntime) {
+    let alloc = rt.alloc();
+    let mut desk = OneDesk::new(alloc, defs_of(&rt, alloc, b"")).expect(&rt, "memory");
+    let first = seat(&rt, &mut desk);
+    add_low(&rt, alloc, &mut desk);
+    assert!(rt; !keeps(&rt, alloc, &desk, 0, "prio>=5"));
+    look_high(&rt, alloc, &mut desk, Told::Nothing);
+    assert!(rt; keeps(&rt, alloc, &desk, 0, "prio>=5"));
+    assert!(rt; !keeps(&rt, alloc, &desk, 0, "prio>=6"));
+    look_high(&rt, alloc, &mut desk, Told::Nothing);
+    let added = insert(
+        &rt,
+        &mut desk,
+        0,
+        row_of(&rt, alloc, &[Number(9), Text("")]),
+    );
+    assert!(rt; is_told(&added, Told::Added(1_001)));
+    look_high(&rt, alloc, &mut desk, Told::Found(1));
+    assert!(rt; is_told(&owned(&rt, &mut desk), Told::Number(1_001)));
+    let second = seat(&rt, &mut desk);
+    look_high(&rt, alloc, &mut desk, Told::Nothing);
+    sit(&rt, &mut desk, first);
+    assert!(rt; is_told(&left(&rt, desk.abort(&())), Told::Done));
+    sit(&rt, &mut desk, second);
+    look_high(&rt, alloc, &mut desk, Told::Found(1));
+    assert!(rt; is_told(&owned(&rt, &mut desk), Told::Number(1_001)));
+}
+
+// Each table keeps the conditions that are listed for it.
+#[test]
+fn waits_keep_their_conditions(rt: HostRuntime) {
+    let alloc = rt.alloc();
+    let mut desk = OneDesk::new(alloc, defs_of(&rt, alloc, TWO_TABLES)).expect(&rt, "memory");
+    let _ = seat(&rt, &mut desk);
+    let entries = [(0, "prio>=5"), (1, "prio<0"), (1, "body='a'"), (0, "")];
+    assert!(rt; is_told(&wait(&rt, alloc, &mut desk, &entries), Told::Nothing));
+    for (place, text) in entries {
+        assert!(rt; keeps(&rt, alloc, &desk, place, text), "{text}");
+    }
+    for (place, text) in [(1, "prio>=5"), (0, "prio<0"), (0, "body='a'"), (1, "")] {
+        assert!(rt; !keeps(&rt, alloc, &desk, place, text), "{text}");
+    }
+}
+
+// Conditions are kept without a call's entry.
+#[test]
+fn two_tables_keep_conditions(rt: HostRuntime) {
+    let alloc = rt.alloc();
+    let defs = defs_of(&rt, alloc, TWO_TABLES);
+    let mut machine = RecordedMachine::new(alloc, &defs).expect(&rt, "memory");
+    let list = list_of(&rt, alloc, &defs, &[(1, "prio<0"), (0, "prio>=5"), (1, "")]);
+    assert!(rt; machine.keep(&list).is_ok());
+    assert_eq!(rt; machine.history().len(), 1);
+    for listed in list.as_slice() {
+        assert!(rt; listed.table < defs.len());
+        assert!(rt; machine.machine().table(listed.table).kept(&listed.cond));
+    }
 }

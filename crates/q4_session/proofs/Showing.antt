@@ -16,7 +16,7 @@ use Rattle.q4_machine.specs.declared.entry.Reply.TheVariants.{Shown}
 use Rattle.q4_machine.specs.declared.session.SessionMode.{SessionMode}
 use Rattle.q4_machine.specs.declared.session.SessionMode.TheVariants.{NonOwner, Empty, Owner}
 use Rattle.q4_machine.specs.declared.shown.NumberedRow.{NumberedRow}
-use Rattle.q4_machine.specs.declared.tables.Opening.{Opening}
+use Rattle.q4_machine.specs.Opening.{Opening}
 use Rattle.q4_machine.specs.Machine.{MachineState, no_table, table_at, mode_of}
 use Rattle.q4_machine.specs.Step.{visible, numbered, shown}
 use Rattle.q4_machine.specs.Valid.{AreValidTables, IsValid}

@@ -4,6 +4,7 @@ use Rattle.q4_machine.specs.declared.entry.Reply.TheVariants.{Done}
 use Rattle.q4_machine.specs.declared.session.SessionMode.TheVariants.{NonOwner}
 use Rattle.q4_machine.specs.Definitions.{IsListed}
 use Rattle.q4_machine.specs.Machine.{mode_of}
+use Rattle.q4_machine.specs.Kept.{KeepSame}
 use Rattle.q4_machine.specs.History.{state_after, definitions_of, IsOpenFor}
 use Rattle.q4_machine.specs.Recorded.{pushed, HasRoom}
 use Rattle.q4_machine.proofs.one_desk.look_until.Given as goal
@@ -11,13 +12,14 @@ use Rattle.q4_machine.proofs.one_desk.look_until.Given as goal
 -- Nothing was made but a sync where one was owed, and the patience was only asked.
 abbrev pub invariant-loop-place : goal.invariant-loop-place
 invariant-loop-place g l = record {
-  settled : ((l.recorded ≡ l.fn.recorded) × (l.owes ≡ l.fn.owes)) ⊎ ((l.recorded ≡ pushed l.fn.recorded l.session Sync Done) × (l.owes ≡ false) × (l.fn.owes ≡ true));
-  room : HasRoom l.recorded 2;
-  is_open : IsOpenFor l.recorded.seen 0 l.session;
-  mode : mode_of (state_after l.recorded.seen) l.session ≡ Some NonOwner;
-  listed : All (IsListed (definitions_of l.recorded.seen)) l.list;
-  defined : definitions_of l.recorded.seen ≡ definitions_of l.fn.recorded.seen;
+  settled : ((l.recorded.log ≡ l.fn.recorded.log) × (l.owes ≡ l.fn.owes)) ⊎ ((l.recorded.log ≡ pushed l.fn.recorded.log l.session Sync Done) × (l.owes ≡ false) × (l.fn.owes ≡ true));
+  room : HasRoom l.recorded.log 2;
+  is_open : IsOpenFor l.recorded.log.seen 0 l.session;
+  mode : mode_of (state_after l.recorded.log.seen) l.session ≡ Some NonOwner;
+  listed : All (IsListed (definitions_of l.recorded.log.seen)) l.list;
+  defined : definitions_of l.recorded.log.seen ≡ definitions_of l.fn.recorded.log.seen;
   list : l.list ≡ l.fn.list;
+  kept : KeepSame l.fn.recorded.kept l.recorded.kept;
   given : (g.P.Patience.state l.patience).given ≡ (g.P.Patience.state l.fn.patience).given;
   starts : (g.P.Patience.state l.patience).starts ≡ (g.P.Patience.state l.fn.patience).starts;
   limit : (g.P.Patience.state l.patience).limit ≡ (g.P.Patience.state l.fn.patience).limit;

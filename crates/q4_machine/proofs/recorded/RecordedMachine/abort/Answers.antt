@@ -1,28 +1,28 @@
 use Rattle.std.proofs.Common.{sym, subst}
 use Rattle.q4_machine.specs.History.{IsOpenFor}
-use Rattle.q4_machine.specs.Recorded.{Recorded, HasRoom}
+use Rattle.q4_machine.specs.Recorded.{RecordedView, HasRoom}
 use Rattle.q4_machine.proofs.Recording.{defined_push, abort_goes}
 use Rattle.q4_machine.proofs.recorded.RecordedMachine.abort.Goals as goal
 
 pub invariant_of-self : goal.invariant_of-self
 invariant_of-self c =
-    let was = subst (λ (r : Recorded). IsOpenFor r.seen 0 c.args.session) (sym c.self.view_is) c.requires.is_open in
-    let room = subst (λ (r : Recorded). HasRoom r 1) (sym c.self.view_is) c.requires.room in
-    let goes = abort_goes c.self.inside.machine c.abort-aborted.new.self c.self.inside.history.items c.args.session _ c.self.invariant c.abort-aborted.ensures.step was room.1 in
+    let was = subst (λ (r : RecordedView). IsOpenFor r.log.seen 0 c.args.session) (sym c.self.view_is) c.requires.is_open in
+    let room = subst (λ (r : RecordedView). HasRoom r.log 1) (sym c.self.view_is) c.requires.room in
+    let goes = abort_goes c.self.inside.machine.state c.abort-aborted.new.self.state c.self.inside.history.items c.args.session _ c.self.invariant c.abort-aborted.ensures.step was room.1 in
     rw (c.push_reserved.ensures.items, c.entry.ensures, c.abort_outcome.ensures) goes.recorded
 
 pub returns-clause-is_open : goal.returns-clause-is_open
 returns-clause-is_open c =
-    let was = subst (λ (r : Recorded). IsOpenFor r.seen 0 c.args.session) (sym c.self.view_is) c.requires.is_open in
-    let room = subst (λ (r : Recorded). HasRoom r 1) (sym c.self.view_is) c.requires.room in
-    let goes = abort_goes c.self.inside.machine c.abort-aborted.new.self c.self.inside.history.items c.args.session _ c.self.invariant c.abort-aborted.ensures.step was room.1 in
+    let was = subst (λ (r : RecordedView). IsOpenFor r.log.seen 0 c.args.session) (sym c.self.view_is) c.requires.is_open in
+    let room = subst (λ (r : RecordedView). HasRoom r.log 1) (sym c.self.view_is) c.requires.room in
+    let goes = abort_goes c.self.inside.machine.state c.abort-aborted.new.self.state c.self.inside.history.items c.args.session _ c.self.invariant c.abort-aborted.ensures.step was room.1 in
     rw (c.push_reserved.ensures.items, c.entry.ensures, c.abort_outcome.ensures) goes.is_open
 
 pub returns-clause-sound : goal.returns-clause-sound
 returns-clause-sound c =
-    let was = subst (λ (r : Recorded). IsOpenFor r.seen 0 c.args.session) (sym c.self.view_is) c.requires.is_open in
-    let room = subst (λ (r : Recorded). HasRoom r 1) (sym c.self.view_is) c.requires.room in
-    let goes = abort_goes c.self.inside.machine c.abort-aborted.new.self c.self.inside.history.items c.args.session _ c.self.invariant c.abort-aborted.ensures.step was room.1 in
+    let was = subst (λ (r : RecordedView). IsOpenFor r.log.seen 0 c.args.session) (sym c.self.view_is) c.requires.is_open in
+    let room = subst (λ (r : RecordedView). HasRoom r.log 1) (sym c.self.view_is) c.requires.room in
+    let goes = abort_goes c.self.inside.machine.state c.abort-aborted.new.self.state c.self.inside.history.items c.args.session _ c.self.invariant c.abort-aborted.ensures.step was room.1 in
     rw (c.push_reserved.ensures.items, c.entry.ensures, c.abort_outcome.ensures) goes.recorded.sound
 
 pub returns-clause-defined : goal.returns-clause-defined
