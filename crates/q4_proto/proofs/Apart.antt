@@ -1,19 +1,10 @@
 -- A line that spells a command is not refused.
-use Rattle.std.proofs.Common.{◌≡◌, ◌==◌, ◌<◌, ◌≤◌, ◌+◌, ◌*◌, ◌^◌, ◌∷◌, ◌∙◌, [], List, ℕ, ℤ, zero, suc, pos, negsuc, Option, None, Some, Ok, Err, All, map, length, get_or, decimal, FitsSigned, refl, sym, ap, subst, arith, if◌then◌else◌, unwrap_or}
-use Rattle.std.specs.Fmt.{signed_decimal}
-use Rattle.std.specs.Int.{w64}
-use Rattle.std.specs.Int.Digits.{digits_of, AllBelowBase}
-use Rattle.std.proofs.lemmas.Fmt.{decimal_digit, decimal-digits_of}
-use Rattle.std.proofs.lemmas.Int.Digits.{all_below_base_digits_of}
+use Rattle.std.proofs.Common.{◌≡◌, ◌==◌, ◌<◌, ◌+◌, ◌*◌, ◌∷◌, ◌∙◌, [], List, ℕ, Option, None, Some, Ok, Err, All, map, length, get_or, refl, sym, ap, subst, arith, if◌then◌else◌, unwrap_or}
 use Rattle.std.proofs.lemmas.List.{length-append, length-map}
-use Rattle.std.proofs.lemmas.List.Elements.{All-nil, All-cons, All-map, All-weaker}
-use Rattle.std.proofs.lemmas.List.Sums.{sum_by-cons}
+use Rattle.std.proofs.lemmas.List.Elements.{All-cons, All-map, All-weaker}
 use Rattle.q4_value.specs.declared.row.Value.{Value}
-use Rattle.q4_value.specs.declared.row.Value.TheVariants.{Int, Word}
-use Rattle.q4_value.specs.Escape.{escaped, IsFieldByte}
+use Rattle.q4_value.specs.Escape.{escaped}
 use Rattle.q4_value.specs.Row.{IsValue, IsRowOf, row_size}
-use Rattle.q4_value.proofs.EscapeLaws.{escaped_once}
-use Rattle.q4_value.proofs.Runs.{IsNoBackslash, plain}
 use Rattle.q4_def.specs.declared.table_def.TableDef.{TableDef}
 use Rattle.q4_def.specs.Tables.{AreDefs}
 use Rattle.q4_machine.specs.declared.looks.Listed.{Listed}

@@ -1,14 +1,11 @@
 -- A line spells one command at most.
-use Rattle.std.proofs.Common.{◌≡◌, ◌<◌, ◌≤◌, ◌^◌, ◌∷◌, ◌∙◌, [], List, ℕ, Option, None, Some, Ok, All, map, decimal, refl, sym, ap, subst, arith}
-use Rattle.std.proofs.lemmas.Fmt.{decimal_injective, signed_decimal_injective}
-use Rattle.std.proofs.lemmas.List.Elements.{All-head, All-tail}
+use Rattle.std.proofs.Common.{◌≡◌, ◌<◌, ◌≤◌, ◌^◌, ◌∷◌, ◌∙◌, [], List, ℕ, Option, None, Some, Ok, decimal, refl, sym, ap, subst, arith}
+use Rattle.std.proofs.lemmas.Fmt.{decimal_injective}
 use Rattle.q4_value.specs.declared.row.Value.{Value}
-use Rattle.q4_value.specs.declared.row.Value.TheVariants.{Int, Word}
 use Rattle.q4_value.specs.declared.column.Kind.{Kind}
 use Rattle.q4_value.specs.Row.{TakeEach}
 use Rattle.q4_value.proofs.EscapeLaws.{escaped_once}
 use Rattle.q4_cond.specs.Condition.{ReadsAs}
-use Rattle.q4_cond.specs.Reading.{kinds_of}
 use Rattle.q4_cond.specs.Tokens.{bare, tokens_of, names_of as column_names}
 use Rattle.q4_cond.specs.Tree.{Tree}
 use Rattle.q4_cond.proofs.Verdicts.{one_tree}
@@ -21,7 +18,7 @@ use Rattle.q4_proto.specs.declared.command.Command.{Command}
 use Rattle.q4_proto.specs.declared.command.Command.TheVariants as spelled
 use Rattle.q4_proto.specs.declared.keyword.Keyword.{Keyword}
 use Rattle.q4_proto.specs.declared.keyword.Keyword.TheVariants.{Insert, Wait, RowId, End, Abort, Select, Quit}
-use Rattle.q4_proto.specs.Commands.{spelled_value, SpellsInsert, SpellsSelect, entries_of, seconds_of, IsSeconds, SpellsEntry, SpellEntries, SpellsWait, Spells, ReadsLine}
+use Rattle.q4_proto.specs.Commands.{SpellsInsert, SpellsSelect, entries_of, seconds_of, IsSeconds, SpellsEntry, SpellEntries, SpellsWait, Spells, ReadsLine}
 use Rattle.q4_proto.proofs.Named.{one_place}
 use Rattle.q4_proto.proofs.Spellings.{row_once}
 use Rattle.q4_proto.proofs.Entries.{one_cut}

@@ -1,5 +1,5 @@
 -- How values stand in fields: each in one way, and null as the spelling of no text.
-use Rattle.std.proofs.Common.{◌≡◌, ◌≢◌, ◌==◌, ◌<◌, ◌≤◌, ◌+◌, ◌^◌, ◌∷◌, ◌∙◌, [], List, ℕ, ℤ, zero, suc, pos, negsuc, Bool, true, false, All, map, length, decimal, FitsSigned, refl, sym, ap, subst, arith, inr, if◌then◌else◌}
+use Rattle.std.proofs.Common.{◌≡◌, ◌≢◌, ◌<◌, ◌≤◌, ◌+◌, ◌^◌, ◌∷◌, ◌∙◌, [], List, ℕ, ℤ, zero, suc, pos, negsuc, Bool, true, false, All, map, length, decimal, FitsSigned, refl, sym, ap, subst, arith, inr, if◌then◌else◌}
 use Rattle.std.specs.Fmt.{signed_decimal}
 use Rattle.std.specs.Int.{w64}
 use Rattle.std.specs.Int.Digits.{digits_of, AllBelowBase}
@@ -10,7 +10,6 @@ use Rattle.std.proofs.lemmas.Int.Digits.{all_below_base_digits_of}
 use Rattle.std.proofs.lemmas.List.Elements.{All-nil, All-cons, All-head, All-tail, All-map, All-weaker}
 use Rattle.std.proofs.lemmas.Slice.Eq.{bytes_eq-Decides}
 use Rattle.q4_value.specs.declared.column.Column.{Column}
-use Rattle.q4_value.specs.declared.column.Kind.{Kind}
 use Rattle.q4_value.specs.declared.column.Kind.TheVariants as kind
 use Rattle.q4_value.specs.declared.row.Value.{Value}
 use Rattle.q4_value.specs.declared.row.Value.TheVariants.{Int, Word, Null}

@@ -1,7 +1,7 @@
 ghost use Rattle.std.specs.Prelude.{◌≡◌, ◌≢◌, ◌<◌, ◌^◌, [], ◌∷◌, ◌++◌, All, length, IfSome, IfNone};
 ghost use Rattle.q4_proto.specs.Fields.{fields_of, IsSpelled, IsFirst};
 
-use memchr::memrchr;
+use memchr::{memchr, memrchr};
 use q4_value::is_escaped;
 use std::marker::Model;
 
@@ -26,8 +26,12 @@ impl<'a> Model for Fields<'a> {
 pub(crate) fn split_line(line: &str) -> (&str, Fields<'_>)
     ensures { fields_of line.now ≡ result.0.now ∷ result.1 }
 {
-    match line.split_once('\t') {
-        Some((field, rest)) => (field, Fields { rest: Some(rest) }),
+    match memchr(b'\t', line.as_bytes()) {
+        Some(tab) => {
+            let (field, back) = line.split_at(tab);
+            let (_, rest) = back.split_at(1);
+            (field, Fields { rest: Some(rest) })
+        }
         None => (line, Fields { rest: None }),
     }
 }

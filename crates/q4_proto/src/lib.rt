@@ -12,6 +12,7 @@ mod pieces;
 mod reply;
 mod rows;
 mod select;
+mod short_line;
 mod wait;
 
 pub use command::{Command, CommandFault, read_command};

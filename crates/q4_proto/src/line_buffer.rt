@@ -2,10 +2,10 @@ ghost use Rattle.std.specs.Prelude.{◌≡◌, ◌+◌, ◌≤◌, [], ◌++◌,
 
 use std::marker::Model;
 
-/// A reply is put together here, so that it goes out by one write.
+/// The lines of a reply are put together here, so that up to this many bytes go out by one write.
 const SIZE: usize = 4_096;
 
-/// The bytes of a reply, or of a part of a long one.
+/// The bytes of a reply of several lines, or of a part of a long one.
 #[derive(Drop)]
 pub struct LineBuffer {
     bytes: [u8; 4096],

@@ -1,4 +1,4 @@
-ghost use Rattle.std.specs.Prelude.{◌≡◌, [], false, OnOk, OnErr};
+ghost use Rattle.std.specs.Prelude.{◌≡◌, ◌≤◌, [], false, length, OnOk, OnErr};
 ghost use Rattle.q4_flow.specs.Flow.{Took, TookFront, Counts};
 ghost use Rattle.q4_proto.specs.Pieces.{writing, Puts, Finishes};
 
@@ -14,13 +14,17 @@ pub struct Pieces {
 }
 
 impl Pieces {
-    pub fn new(waiting: LineBuffer) -> Pieces
-        ensures { result ≡ record { waiting = waiting; failed = false } }
+    /// Nothing was written yet, and the line waits.
+    pub fn new(line: &[u8]) -> Pieces
+        requires { length line.now ≤ 4096 }
+        ensures { result ≡ record { waiting = line.now; failed = false } }
     {
-        Pieces {
-            waiting,
+        let mut pieces = Pieces {
+            waiting: LineBuffer::new(),
             failed: false,
-        }
+        };
+        pieces.waiting.put(line);
+        pieces
     }
 
     /// Puts the piece behind what was put.

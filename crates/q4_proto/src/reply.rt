@@ -6,8 +6,8 @@ ghost use Rattle.q4_proto.specs.Told.{told as seen_as};
 ghost use Rattle.q4_proto.specs.Text.{text, text_behind, label_front, code, code_at, code_within, refusal_words, tab_number, fault_code, IsCode, IsOutcome};
 
 use crate::CommandFault;
-use crate::line_buffer::LineBuffer;
 use crate::rows::put_rows;
+use crate::short_line::ShortLine;
 use itoa::Buffer;
 use q4_cond::CondFault;
 use q4_flow::{Sink, WriteFailed};
@@ -132,11 +132,11 @@ pub fn put_reply_behind<W: Sink>(
 }
 
 // The label and a space, as the front of a line.
-pub(crate) fn label_front(label: Option<u8>) -> LineBuffer
+pub(crate) fn label_front(label: Option<u8>) -> ShortLine
     ensures front { result ≡ label_front label }
     ensures short { length result ≤ 21 }
 {
-    let mut line = LineBuffer::new();
+    let mut line = ShortLine::new();
     if let Some(label) = label {
         let mut digits = Buffer::new();
         line.put(digits.format(label).as_bytes());
@@ -145,7 +145,7 @@ pub(crate) fn label_front(label: Option<u8>) -> LineBuffer
     line
 }
 
-fn word_line(label: Option<u8>, word: &[u8]) -> LineBuffer
+fn word_line(label: Option<u8>, word: &[u8]) -> ShortLine
     requires { length word.now ≤ 8 }
     ensures { result ≡ label_front label ++ word.now }
 {
@@ -154,7 +154,7 @@ fn word_line(label: Option<u8>, word: &[u8]) -> LineBuffer
     line
 }
 
-pub(crate) fn number_line(label: Option<u8>, word: &[u8], number: u64) -> LineBuffer
+pub(crate) fn number_line(label: Option<u8>, word: &[u8], number: u64) -> ShortLine
     requires { length word.now ≤ 8 }
     ensures { result ≡ label_front label ++ word.now ++ decimal number ++ codes "\n" }
 {
@@ -166,7 +166,7 @@ pub(crate) fn number_line(label: Option<u8>, word: &[u8], number: u64) -> LineBu
     line
 }
 
-fn refusal_line(label: Option<u8>, code: Code) -> LineBuffer
+fn refusal_line(label: Option<u8>, code: Code) -> ShortLine
     requires { IsCode code }
     ensures { result ≡ label_front label ++ text (told.Refused code) }
 {
@@ -183,7 +183,7 @@ fn refusal_line(label: Option<u8>, code: Code) -> LineBuffer
 }
 
 // Puts a TAB and the number, where there is one.
-fn put_number(line: &mut LineBuffer, number: Option<u64>)
+fn put_number(line: &mut ShortLine, number: Option<u64>)
     requires { length line.old ≤ 96 }
     ensures put { line.new ≡ line.old ++ tab_number number }
     ensures short { length line.new ≤ length line.old + 21 }

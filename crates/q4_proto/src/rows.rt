@@ -26,7 +26,8 @@ pub(crate) fn put_rows<W: Sink>(
     ensures cause { Counts (W.faults sink.old) (W.faults sink.new) result }
 {
     let front = label_front(label);
-    let mut reply = Pieces::new(number_line(label, b"rows\t", u64::from(rows.len())));
+    let first = number_line(label, b"rows\t", u64::from(rows.len()));
+    let mut reply = Pieces::new(first.as_slice());
     for shown in rows.as_slice() {
         put_row(&mut reply, sink, front.as_slice(), shown);
     }

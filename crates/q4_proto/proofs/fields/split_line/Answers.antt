@@ -1,18 +1,17 @@
-use Rattle.std.proofs.Common.{◌≡◌, ◌<◌, length, subst, arith}
-use Rattle.std.specs.Prelude.{MatchOption}
-use Rattle.std.specs.List.{position_or_len, before_first, after_first}
-use Rattle.std.proofs.lemmas.Str.Pattern.{split_once_first}
-use Rattle.q4_proto.proofs.Splitting.{is_tab, split_some, split_none}
+use Rattle.std.proofs.Common.{◌≤◌, ◌<◌, ℕ, length, subst}
+use Rattle.std.specs.Str.{IsUtf8}
+use Rattle.memchr.specs.Find.{Passes, is_byte}
+use Rattle.q4_proto.proofs.Splitting.{IsFirstTab, first_cut, no_cut, after_tab}
 use Rattle.q4_proto.proofs.fields.split_line.Goals as goal
+
+pub split_at-requires-in-Some : goal.split_at-requires-in-Some
+split_at-requires-in-Some c =
+    let found = subst (λ xs. IsFirstTab xs c.in-Some.tab) c.as_bytes.ensures.value c.in-Some.ensures in
+    after_tab c.args.line.now c.split_at.result.1.now c.in-Some.tab (subst IsUtf8 c.as_bytes.ensures.value c.as_bytes.ensures.utf8) found.0.high found.1 c.split_at.ensures.back
 
 pub returns-in-Some : goal.returns-in-Some
 returns-in-Some c =
-    let cut = subst (λ r. MatchOption r (position_or_len is_tab c.args.line.now ≡ length c.args.line.now) (λ x. (position_or_len is_tab c.args.line.now < length c.args.line.now) × (x.0.now ≡ before_first is_tab c.args.line.now) × (x.1.now ≡ after_first is_tab c.args.line.now)))
-    c.in-Some.is (split_once_first 9 c.args.line.now c.split_once.result c.split_once.ensures.cases (omega arith)) in
-    split_some c.args.line.now c.in-Some.field.now c.in-Some.rest.now cut.0 cut.1 cut.2
+    first_cut c.args.line.now c.split_at.result.0.now c.split_at.result.1.now c.split_at-in-Some.result.1.now c.in-Some.tab (subst (λ xs. IsFirstTab xs c.in-Some.tab) c.as_bytes.ensures.value c.in-Some.ensures) c.split_at.ensures.front c.split_at.ensures.back c.split_at-in-Some.ensures.back
 
 pub returns-in-None : goal.returns-in-None
-returns-in-None c =
-    let none = subst (λ r. MatchOption r (position_or_len is_tab c.args.line.now ≡ length c.args.line.now) (λ x. (position_or_len is_tab c.args.line.now < length c.args.line.now) × (x.0.now ≡ before_first is_tab c.args.line.now) × (x.1.now ≡ after_first is_tab c.args.line.now)))
-    c.in-None.is (split_once_first 9 c.args.line.now c.split_once.result c.split_once.ensures.cases (omega arith)) in
-    split_none c.args.line.now none
+returns-in-None c = no_cut c.args.line.now (subst (λ xs. (k : ℕ) → 0 ≤ k → k < length xs → Passes (is_byte 9) xs k → ⊥) c.as_bytes.ensures.value c.in-None.ensures)

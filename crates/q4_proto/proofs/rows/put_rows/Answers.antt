@@ -17,7 +17,7 @@ loop-shown-preserved g c =
     let first : Writing = record { written = g.W.Sink.written c.args.sink.now; faults = g.W.Sink.faults c.args.sink.now; waiting = label_front c.args.label ++ codes "rows\t" ++ decimal (length c.args.rows.now) ++ codes "\n"; failed = false } in
     let before : Writing = writing (g.W.Sink.written c.loop-shown.sink) (g.W.Sink.faults c.loop-shown.sink) c.loop-shown.reply in
     let after : Writing = writing (g.W.Sink.written c.put_row.new.sink) (g.W.Sink.faults c.put_row.new.sink) c.put_row.new.reply in
-    let front : c.as_slice.result.now ≡ label_front c.args.label = c.as_slice.ensures ∙ c.label_front-front.ensures.front in
+    let front : c.as_slice-in-loop-shown.result.now ≡ label_front c.args.label = c.as_slice-in-loop-shown.ensures.bytes ∙ c.label_front-front.ensures.front in
     subst (Puts first after) (sym (flat_next line rows index c.shown-item.result inside c.shown-item.is))
     (put_then first before after (flat_map line (take index rows)) (line c.shown-item.result) c.loop-shown.invariant (subst (λ (bytes : List ℕ). Puts before after (bytes ++ row_line c.shown-item.result)) front c.put_row.ensures))
 

@@ -8,7 +8,8 @@ use Rattle.q4_proto.proofs.fields.Fields.split_last.Goals as goal
 
 pub split_at-requires-in-Some : goal.split_at-requires-in-Some
 split_at-requires-in-Some c =
-    after_tab c.in_ok-line.line.now c.split_at.result.1.now c.in-Some.tab (subst IsUtf8 c.as_bytes.ensures.value c.as_bytes.ensures.utf8) (subst (λ xs. IsLastTab xs c.in-Some.tab) c.as_bytes.ensures.value c.in-Some.ensures) c.split_at.ensures.back
+    let found = subst (λ xs. IsLastTab xs c.in-Some.tab) c.as_bytes.ensures.value c.in-Some.ensures in
+    after_tab c.in_ok-line.line.now c.split_at.result.1.now c.in-Some.tab (subst IsUtf8 c.as_bytes.ensures.value c.as_bytes.ensures.utf8) found.0.high found.1 c.split_at.ensures.back
 
 pub returns-in-Some-clause-cut : goal.returns-in-Some-clause-cut
 returns-in-Some-clause-cut c =
