@@ -7,9 +7,9 @@
 #   tests/programs.sh FOLDER     the programs in that folder
 #
 # tests/programs/q4.sh has the cases of q4, with what docs/PROTOCOL.md and docs/FORMATS.md promise as the answers, and
-# tests/programs/start.sh those of run.sh. tests/programs/cases.sh is what they call; a further program gets a file of
-# its own. A case prints one line where it fails. A case whose tool is missing is skipped, and says so. The last line is
-# `N passed, M failed`; the status is 0 where one passed and none failed.
+# tests/programs/start.sh those of run.sh. tests/programs/cases.sh is what they call, and tests/programs/load.py the model
+# of a long play; a further program gets a file of its own. A case prints one line where it fails. A case whose tool is
+# missing is skipped, and says so. The last line is `N passed, M failed`; the status is 0 where one passed and none failed.
 set -eu
 export LC_ALL=C
 top=$(dirname "$(dirname "$(readlink -f "${BASH_SOURCE[0]}")")")

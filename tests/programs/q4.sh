@@ -727,6 +727,20 @@ for tour in "$top"/crates/q4/data/*.play; do
     ends "the tour, $(basename "$tour" .play)" 0 play
 done
 
+# 200,000 lines of four sessions: inserts, looks behind rows that do not meet the first condition, ends, rows that are
+# given back. The replies are those of a model.
+long_play='200,000 lines of four sessions'
+if has python3; then
+    load() {
+        python3 "$top/tests/programs/load.py" "$@"
+    }
+    load lines 200000 >"$input"
+    load replies 200000 >"$answer"
+    ends "$long_play" 0 play
+else
+    skip "$long_play" 'there is no python3'
+fi
+
 # ---- Full tables and histories.
 
 table t "${columns_of_text[@]}"
